@@ -1,0 +1,3 @@
+-- The rules of document 01 over a program, the least table and the verdict.
+pub mod Rules
+pub mod Verdict

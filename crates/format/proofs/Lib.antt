@@ -1,0 +1,19 @@
+-- What the definitions of the statement file give: theorems for the code that reads, the rules and the machine.
+pub mod Tests
+pub mod Fields
+pub mod Records
+pub mod Reading
+pub mod Written
+pub mod File
+pub mod Effect
+pub mod Later
+pub mod Arrays
+pub mod Ready
+pub mod Among
+pub mod Labels
+pub mod Variables
+pub mod Masks
+pub mod Functions
+pub mod Sets
+pub mod Made
+pub mod Readable

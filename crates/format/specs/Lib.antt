@@ -1,0 +1,5 @@
+-- What a statement file is and what reading it gives: the declaration sheet, the fields, the records, the file.
+pub mod Sheet
+pub mod Fields
+pub mod Records
+pub mod Reading

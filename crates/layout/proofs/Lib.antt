@@ -1,0 +1,2 @@
+-- What the two tables of the code hold.
+pub mod Table

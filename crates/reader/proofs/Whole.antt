@@ -1,0 +1,36 @@
+-- A whole file: too long, refused at a record, left without a function, or read. Assumes nothing.
+use mathlib.Core.Path.{_≡_, refl, sym, ap, _∙_}
+use mathlib.Core.List.{List}
+use mathlib.Core.Bool.{Bool, true, false, not}
+use Prim.Native.Nat.{ℕ, _≤_, _<_}
+use lib.ListN.{length}
+use borrow.Author.Tests.{le-ltb, lt-ltb, eq-eqb, ne-eqb}
+use Rattle.format.specs.Sheet.{start}
+use Rattle.format.specs.Reading.{Reading, stopped, lacking, finished, longest, readFile}
+use Rattle.reader.proofs.Laws.{Agrees, whole}
+
+pub too-long : (xs : List ℕ) → longest < length xs → readFile 64 xs ≡ stopped (start 64) 9 0
+unfolding readFile
+too-long xs h = rw (lt-ltb _ _ h)
+
+module _ (xs : List ℕ) (h : length xs ≤ longest) where
+  short : readFile 64 xs ≡ finished (whole xs)
+  unfolding readFile
+  short = rw (le-ltb _ _ h)
+
+  same-as-read : finished (whole xs) ≡ whole xs → Agrees (whole xs) (readFile 64 xs)
+  same-as-read e = rw (short, e) (record { sheet-same = refl; refusal-same = refl; position-same = refl })
+
+  pub refused-early : (whole xs .refusal ≡ 0 → ⊥) → Agrees (whole xs) (readFile 64 xs)
+  unfolding finished
+  refused-early z = same-as-read (rw (ne-eqb _ _ z))
+
+  module _ (z : whole xs .refusal ≡ 0) where
+    pub read-whole : lacking (whole xs .sheet .types) (whole xs .sheet .defined) ≡ false → Agrees (whole xs) (readFile 64 xs)
+    unfolding finished
+    read-whole e = same-as-read (rw (eq-eqb _ _ z, e))
+
+    pub left-without : lacking (whole xs .sheet .types) (whole xs .sheet .defined) ≡ true
+        → Agrees (record { records = whole xs .records; sheet = whole xs .sheet; refusal = 7; position = whole xs .position }) (readFile 64 xs)
+    unfolding finished
+    left-without e = rw (short, finished, eq-eqb _ _ z, e) (record { sheet-same = refl; refusal-same = refl; position-same = refl })

@@ -1,0 +1,2 @@
+-- Laws of row numbers. Assumes nothing.
+pub mod Number

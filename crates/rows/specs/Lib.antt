@@ -1,0 +1,2 @@
+-- Where each set of labels stands in the table. Assumes nothing.
+pub mod Row

@@ -1,0 +1,16 @@
+-- The theory of rules as data: what another crate cites. Assumes nothing.
+pub mod Labels
+pub mod Table
+pub mod Told
+pub mod Join
+pub mod Round
+pub mod Least
+pub mod Derive
+pub mod Sweep
+pub mod Loop
+pub mod Gap
+pub mod Find
+pub mod Premises
+pub mod Beyond
+pub mod Resume
+pub mod Skip

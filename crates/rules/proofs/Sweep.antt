@@ -1,0 +1,217 @@
+-- Work in place: a table reached by steps that the rule bears out, and closed, is the least table above the start. So a loop that
+-- sweeps until nothing is added leaves that table, whatever order the sweep takes. The laws make the promise of a function for
+-- a rule out of those of the functions that it calls. Assumes nothing.
+use mathlib.Core.Path.{_≡_, refl, sym, _∙_, subst}
+use mathlib.Core.Logic.{_⊎_, inl, inr}
+use mathlib.Core.Bool.{Bool, true, false, _||_}
+use Prim.Native.Nat.{ℕ, suc, _*_, _-_, _^_, _≤_, _<_}
+use native.Mathlib.Omega.{arith}
+use lib.ListN.{getD}
+use lib.Pow.{pow-lt}
+use Rattle.words.proofs.Bits.{On, on-single, single-only}
+use Rattle.rows.specs.Row.{Row, number, rowCount}
+use Rattle.rules.specs.Table.{Table, Has, Within, Shaped, facts}
+use Rattle.rules.specs.Rule.{Rule, none, give, include, both, when}
+use Rattle.rules.specs.Told.{Told, Closed, Fits}
+use Rattle.rules.specs.Round.{join, leastAbove}
+use Rattle.rules.specs.Gap.{grows}
+use Rattle.rules.specs.Sweep.{Reaches, Sweeps}
+use Rattle.rules.proofs.Table.{facts-room, facts-within, facts-more}
+use Rattle.rules.proofs.Told.{told-closed, told-within}
+use Rattle.rules.proofs.Join.{join-length, join-keeps, join-other, join-row-zero, has-join, join-small, not-grown, not-grown-same, grown-differs}
+use Rattle.rules.proofs.Least.{least-only}
+
+-- ---- what is reached
+
+pub reaches-itself : {L : ℕ} {p : Rule} {t : Table} → Reaches L p t t
+reaches-itself =
+    record { same-length = refl; adds = λ r l h. h; within = λ v c w. w; small = λ s. s; row-zero = refl; beyond = λ r h. refl }
+
+pub reaches-on : {L : ℕ} {p : Rule} {t u v : Table} → Reaches L p t u → Reaches L p u v → Reaches L p t v
+reaches-on a b =
+    record {
+      same-length = b .same-length ∙ a .same-length;
+      adds = λ r l h. b .adds r l (a .adds r l h);
+      within = λ x c w. b .within x c (a .within x c w);
+      small = λ s. b .small (a .small s);
+      row-zero = b .row-zero ∙ a .row-zero;
+      beyond = λ r h. b .beyond r h ∙ a .beyond r h;
+    }
+
+-- for a rule whose closed tables above t are closed for the first
+pub reaches-for : {L : ℕ} {p q : Rule} {t u : Table} → ((v : Table) → Within t v → Closed L v q → Closed L v p) → Reaches L p t u → Reaches L q t u
+reaches-for f a =
+    record {
+      same-length = a .same-length;
+      adds = a .adds;
+      within = λ v c w. a .within v (f v w c) w;
+      small = a .small;
+      row-zero = a .row-zero;
+      beyond = a .beyond;
+    }
+
+pub reaches-shaped : {L : ℕ} {p : Rule} {t u : Table} → Reaches L p t u → Shaped L t → Shaped L u
+reaches-shaped a s = record { long = rw (a .same-length) (s .long); small = a .small (s .small) }
+
+pub reaches-facts : {L : ℕ} {p : Rule} {t u : Table} → Reaches L p t u → facts L t ≤ facts L u
+reaches-facts {L} {p} {t} {u} a = facts-within L t u (sym (a .same-length)) (a .adds)
+
+-- what is reached and closed is the least table above the start
+pub reaches-least : {L : ℕ} {p : Rule} {t u : Table} → Fits L p → Shaped L t → Reaches L p t u → Closed L u p → u ≡ leastAbove L p t
+reaches-least {L} {p} {t} {u} fits s a c = least-only L p fits t u s (a .same-length) (a .small (s .small)) (a .adds) c (a .within)
+
+-- ---- a sweep
+
+not-true : {A : Type 0} → false ≡ true → A
+not-true e = let z : _≡_ {A = ℕ} 0 1 = cc in absurd (omega arith)
+
+pub sweeps-none : {L : ℕ} {t : Table} → Sweeps L none t t false
+sweeps-none = record { reaches = reaches-itself; still = λ e. refl; closed = λ e. tt; more = not-true }
+
+-- for a rule that is as good: its closed tables above t are closed for the first, and t is closed for it where t is for the first
+pub sweeps-for : {L : ℕ} {p q : Rule} {t u : Table} {grew : Bool} → ((v : Table) → Within t v → Closed L v q → Closed L v p)
+    → (Closed L t p → Closed L t q) → Sweeps L p t u grew → Sweeps L q t u grew
+sweeps-for f g s = record { reaches = reaches-for f (s .reaches); still = s .still; closed = λ e. g (s .closed e); more = s .more }
+
+-- for a table and an answer that are equal to these
+pub sweeps-equal : {L : ℕ} {p : Rule} {t u v : Table} {a b : Bool} → v ≡ u → b ≡ a → Sweeps L p t u a → Sweeps L p t v b
+sweeps-equal e d s = rw (e, d) s
+
+neither : (a b : Bool) → a || b ≡ false → (a ≡ false) × (b ≡ false)
+neither true b e = not-true (sym e)
+neither false b e = (refl, e)
+
+either : (a b : Bool) → a || b ≡ true → (a ≡ true) ⊎ (b ≡ true)
+either true b e = inl refl
+either false b e = inr e
+
+-- one rule, and then the other on what the first left
+pub sweeps-both : {L : ℕ} {p q : Rule} {t u v : Table} {a b : Bool} → Sweeps L p t u a → Sweeps L q u v b → Sweeps L (both p q) t v (a || b)
+sweeps-both {L} {p} {q} {t} {u} {v} {a} {b} first second =
+    record {
+      reaches = reaches-on (reaches-for (λ x w c. c .0) (first .reaches)) (reaches-for (λ x w c. c .1) (second .reaches));
+      still = λ e. let n = neither a b e in second .still (n .1) ∙ first .still (n .0);
+      closed = λ e. let n = neither a b e in
+          (first .closed (n .0), subst (λ (x : Table). Closed L x q) (first .still (n .0)) (second .closed (n .1)));
+      more = λ e. more (either a b e);
+    }
+  where
+    more : (a ≡ true) ⊎ (b ≡ true) → facts L t < facts L v
+    more (inl e) = omega (arith, first .more e, reaches-facts (second .reaches))
+    more (inr e) = omega (arith, second .more e, reaches-facts (first .reaches))
+
+-- the two the other way round
+pub both-swap : {L : ℕ} {p q : Rule} {t u : Table} {grew : Bool} → Sweeps L (both p q) t u grew → Sweeps L (both q p) t u grew
+both-swap s = sweeps-for (λ v w c. (c .1, c .0)) (λ c. (c .1, c .0)) s
+
+-- of three: `a | b | c` in the code groups to the left, and `also` in the rules to the right
+pub both-regroup : {L : ℕ} {p q o : Rule} {t u : Table} {grew : Bool} → Sweeps L (both (both p q) o) t u grew → Sweeps L (both p (both q o)) t u grew
+both-regroup s = sweeps-for (λ v w c. ((c .0, c .1 .0), c .1 .1)) (λ c. (c .0 .0, (c .0 .1, c .1))) s
+
+-- where the test holds, and where it does not
+pub when-on : {L : ℕ} {p : Rule} {t u : Table} {grew : Bool} (b : Bool) → b ≡ true → Sweeps L p t u grew → Sweeps L (when b p) t u grew
+when-on b e s = rw e s
+
+pub when-off : {L : ℕ} {t : Table} (p : Rule) (b : Bool) → b ≡ false → Sweeps L (when b p) t t false
+when-off p b e = rw e sweeps-none
+
+-- a rule for which the table is closed may be passed over
+pub sweeps-skip : {L : ℕ} {p : Rule} {t : Table} → Closed L t p → Sweeps L p t t false
+sweeps-skip c = sweeps-for (λ v w d. tt) (λ d. c) sweeps-none
+
+-- ---- one store
+
+-- word w joined to row y is borne out by every rule that tells its labels of t
+pub reaches-join : (L : ℕ) (p : Rule) (y w : ℕ) (t : Table) → y < rowCount L → w < 2 ^ L → ((l : ℕ) → 0 < y → On w l → Told L t p y l)
+    → Reaches L p t (join y w t)
+reaches-join L p y w t i h all =
+    record {
+      same-length = join-length y w t;
+      adds = join-keeps y w t;
+      within = λ v c u r l g. inside v c u r l (has-join y w t r l g);
+      small = join-small L y w t h;
+      row-zero = join-row-zero y w t;
+      beyond = λ r g. join-other y w t r (λ e. absurd (omega (arith, e)));
+    }
+  where
+    inside : (v : Table) → Closed L v p → Within t v → (r l : ℕ) → Has t r l ⊎ ((0 < y) × (r ≡ y) × On w l) → Has v r l
+    inside v c u r l (inl g) = u r l g
+    inside v c u r l (inr g) = rw (g .1) (told-within L t v p c u y l (all l (g .0) (g .2)))
+
+-- it sweeps for a rule that tells of t just these labels, in row y
+pub sweeps-join : (L : ℕ) (p : Rule) (y w : ℕ) (t : Table) → Shaped L t → y < rowCount L → w < 2 ^ L
+    → ((l : ℕ) → 0 < y → On w l → Told L t p y l) → ((r l : ℕ) → Told L t p r l → (0 < y) × (r ≡ y) × On w l)
+    → Sweeps L p t (join y w t) (grows y w t)
+sweeps-join L p y w t s i h all only =
+    let reached = reaches-join L p y w t i h all in
+    record {
+      reaches = reached;
+      still = λ e. not-grown-same y w t e;
+      closed = λ e. told-closed L t p (λ r l g. let o = only r l g in rw (o .1) (not-grown y w t (o .0) e l (o .2)));
+      more = λ e.
+          facts-more L t (join y w t) (sym (join-length y w t)) (s .small) (join-small L y w t h (s .small)) (join-keeps y w t)
+          (reached .beyond) (grown-differs y w t (omega (arith, s .long)) e);
+    }
+
+pub sweeps-give : (L : ℕ) (y : Row) (m : ℕ) (t : Table) → Shaped L t → number L y < rowCount L → m < L
+    → Sweeps L (give y m) t (join (number L y) (2 ^ m) t) (grows (number L y) (2 ^ m) t)
+sweeps-give L y m t s i h =
+    sweeps-join L (give y m) (number L y) (2 ^ m) t s i (pow-lt h) (λ l z o. (z, refl, single-only m l o))
+    (λ r l g. (g .0, g .1, rw (g .2) (on-single m)))
+
+pub sweeps-include : (L : ℕ) (y x : Row) (t : Table) → Shaped L t → number L y < rowCount L
+    → Sweeps L (include y x) t (join (number L y) (getD t (number L x) 0) t) (grows (number L y) (getD t (number L x) 0) t)
+sweeps-include L y x t s i =
+    sweeps-join L (include y x) (number L y) (getD t (number L x) 0) t s i (s .small (number L x)) (λ l z o. (z, refl, o)) (λ r l g. g)
+
+-- rows count by their numbers alone: code that has a row's number may call it `variable` of that number
+pub give-row : {L : ℕ} {t u : Table} {grew : Bool} (y z : Row) (m : ℕ) → number L y ≡ number L z → Sweeps L (give y m) t u grew
+    → Sweeps L (give z m) t u grew
+give-row y z m e s = sweeps-for (λ v w c. rw e c) (λ c. rw (← e) c) s
+
+pub include-rows : {L : ℕ} {t u : Table} {grew : Bool} (y x z w : Row) → number L y ≡ number L z → number L x ≡ number L w
+    → Sweeps L (include y x) t u grew → Sweeps L (include z w) t u grew
+include-rows y x z w e d s = sweeps-for (λ v i c. rw (e, d) c) (λ c. rw (← e, ← d) c) s
+
+-- ---- sweeps until one adds nothing
+
+pub sweeps-closed : {L : ℕ} {p : Rule} {t u : Table} {grew : Bool} → Sweeps L p t u grew → grew ≡ false → Closed L u p
+sweeps-closed {L} {p} s e = subst (λ (x : Table). Closed L x p) (sym (s .still e)) (s .closed e)
+
+-- how far the loop `while again { again = sweep(t); }` has come from t to u
+pub record Repeats (L : ℕ) (p : Rule) (t u : Table) (again : Bool) : Type 0 where
+  pub reaches : Reaches L p t u
+  pub closed : again ≡ false → Closed L u p
+
+pub repeats-start : {L : ℕ} {p : Rule} {t : Table} → Repeats L p t t true
+repeats-start = record { reaches = reaches-itself; closed = λ e. not-true (sym e) }
+
+pub repeats-again : {L : ℕ} {p : Rule} {t u v : Table} {again grew : Bool} → Repeats L p t u again → Sweeps L p u v grew → Repeats L p t v grew
+repeats-again a s = record { reaches = reaches-on (a .reaches) (s .reaches); closed = λ e. sweeps-closed s e }
+
+-- the loop's end
+pub repeats-least : {L : ℕ} {p : Rule} {t u : Table} {again : Bool} → Fits L p → Shaped L t → again ≡ false → Repeats L p t u again → u ≡ leastAbove L p t
+repeats-least fits s e a = reaches-least fits s (a .reaches) (a .closed e)
+
+-- for how many more facts there is room
+unfoldable pub room : ℕ → Table → ℕ
+unfolding facts
+room L t = L * rowCount L - facts L t
+
+-- the same, and one turn more while the last sweep added something
+abbrev pub left : ℕ → Bool → Table → ℕ
+left L true t = suc (room L t)
+left L false t = 0
+
+-- what falls with every turn, where the loop is left as soon as a sweep adds nothing
+pub room-less : {L : ℕ} {p : Rule} {t u : Table} {grew : Bool} → grew ≡ true → Sweeps L p t u grew → room L u < room L t
+unfolding room
+room-less {L} {p} {t} {u} e s = omega (arith, s .more e, facts-room L u)
+
+-- what falls with every turn of `while again { again = sweep(t); }`
+pub left-less : {L : ℕ} {p : Rule} {t u : Table} {again grew : Bool} → again ≡ true → Sweeps L p t u grew → left L grew u < left L again t
+left-less {L} {p} {t} {u} {again} {grew} e s = rw e (go grew refl)
+  where
+    go : (b : Bool) → grew ≡ b → left L b u < left L true t
+    go true g = omega (arith, room-less g s)
+    go false g = omega arith

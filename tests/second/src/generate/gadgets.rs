@@ -1,0 +1,24 @@
+//! The list of the pieces of structured files, each a few statements of sensible host code.
+
+use super::kit::Kit;
+use super::{call_gadgets as calls, object_gadgets as objects};
+
+pub type Gadget = (&'static str, fn(&mut Kit));
+
+pub const GADGETS: [Gadget; 15] = [
+    ("closure", calls::closure),
+    ("membrane", calls::membrane),
+    ("prototypes", objects::prototypes),
+    ("throws", calls::throws),
+    ("constructor", calls::constructor),
+    ("array", objects::array),
+    ("classes", objects::classes),
+    ("global", objects::global),
+    ("builtin", objects::builtin),
+    ("frozen", objects::frozen),
+    ("prim", calls::prim),
+    ("callback", calls::callback),
+    ("primitive", objects::primitive),
+    ("recursion", calls::recursion),
+    ("arguments", calls::arguments),
+];

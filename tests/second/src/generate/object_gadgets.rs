@@ -1,0 +1,109 @@
+//! Pieces of structured files about objects: prototypes, arrays, classes of names, the global object, built-ins.
+
+use super::kit::Kit;
+
+/// Functions whose prototype property is made by new of the one before; methods are found far up the chain.
+pub fn prototypes(kit: &mut Kit) {
+    let n = kit.name();
+    let depth = kit.r.between(2, 3);
+    let mut before: Option<u8> = None;
+    for _ in 0..depth {
+        let f = kit.fun(0);
+        let (fv, q, l) = (kit.top(), kit.plain(), kit.plain());
+        let (object, t) = (kit.top(), kit.top());
+        kit.say(|w| w.make_function(0, fv, f.l, q));
+        if let Some(parent) = before {
+            kit.say(|w| w.store(0, fv, 3, parent));
+        }
+        kit.say(|w| w.new_object(0, object, fv, t, l, [0; 6]));
+        before = Some(object);
+        if kit.r.chance(1, 2) {
+            let value = kit.some_open();
+            kit.say(|w| w.store(0, object, n, value));
+        }
+    }
+    let (found, w0, object) = (kit.top(), kit.plain(), before.unwrap_or(0));
+    kit.say(|w| w.load(0, found, object, n, w0));
+    kit.expose(if depth == 2 { object } else { found });
+}
+
+/// An array whose numbered entries are names of one class, filled and read by class.
+pub fn array(kit: &mut Kit) {
+    let l = kit.label(3, 0);
+    let (list, entry, wrap) = (kit.top(), kit.top(), kit.plain());
+    let class = kit.r.between(1, 7) as u8;
+    let n = kit.name();
+    kit.name_mask(n, 1 | 1 << class);
+    let value = if kit.r.chance(1, 4) { kit.some_secret() } else { kit.some_open() };
+    kit.say(|w| w.make(0, list, l).store(0, list, 128 + class, value));
+    let other = if kit.slips() { n } else { kit.name() };
+    kit.say(|w| w.load(0, entry, list, other, wrap));
+    kit.expose(entry);
+}
+
+/// Secrets under names of one class, open values under names of another, read by class.
+pub fn classes(kit: &mut Kit) {
+    let (a, b) = (kit.name(), kit.name());
+    let (one, two) = (kit.r.between(1, 3) as u8, kit.r.between(4, 7) as u8);
+    let both = if kit.slips() { 1 << one | 1 << two } else { 0 };
+    kit.name_mask(a, 1 | 1 << one | both);
+    kit.name_mask(b, 1 | 1 << two);
+    let (l, object, out, wrap) = (kit.plain(), kit.top(), kit.top(), kit.plain());
+    let (secret, open) = (kit.some_secret(), kit.some_open());
+    kit.say(|w| w.make(0, object, l).store(0, object, a, secret).store(0, object, b, open));
+    kit.say(|w| w.load(0, out, object, 128 + two, wrap));
+    kit.expose(out);
+}
+
+/// Named variables, which are properties of the global object; the host may read that object by load.
+pub fn global(kit: &mut Kit) {
+    let (a, b) = (kit.name(), kit.name());
+    let (hidden, shown, out) = (kit.variable(0, a), kit.variable(0, b), kit.top());
+    let (object, wrap) = (kit.top(), kit.plain());
+    let (secret, open) = (kit.some_secret(), kit.some_open());
+    kit.say(|w| w.copy(0, hidden, secret).copy(0, shown, open).held(object, 0));
+    let key = if kit.slips() { 128 } else { b };
+    kit.say(|w| w.load(0, out, object, key, wrap));
+    if kit.slips() {
+        kit.expose(object);
+    }
+    let seen = kit.r.pick(&[shown, out]);
+    kit.expose(seen);
+}
+
+/// Methods on the built-in prototypes, found through every chain, called by host and guest.
+pub fn builtin(kit: &mut Kit) {
+    let f = kit.fun(1);
+    let n = kit.name();
+    let holder = kit.r.pick(&[1, 2, 4]);
+    kit.say(|w| w.property(holder, n, f.l));
+    let given = kit.r.pick(&[f.this, f.formals[0]]);
+    kit.say(|w| w.give_back(f.l, given));
+    let (method, result, wrap) = (kit.top(), kit.top(), kit.plain());
+    let object = if kit.r.chance(1, 3) { kit.some_secret() } else { kit.some_open() };
+    kit.say(|w| w.load(0, method, object, n, wrap).call(0, result, method, object, [object, 0, 0, 0, 0, 0]));
+    if kit.slips() {
+        kit.expose(result);
+    }
+}
+
+/// A built-in object that stores cannot change, next to one that they can.
+pub fn frozen(kit: &mut Kit) {
+    let n = kit.name();
+    let flag = if kit.slips() { 0 } else { 1 };
+    let (l, part) = (kit.label(1, flag), kit.label(1, 1));
+    let (object, secret) = (kit.top(), kit.some_secret());
+    kit.say(|w| w.held(object, l).property(l, n, part).store(0, object, n, secret));
+    kit.expose(object);
+}
+
+/// A load on a primitive (variable 0, or one that is never written) that finds what hangs on the wrapper or label 1.
+pub fn primitive(kit: &mut Kit) {
+    let (wrap, part, n) = (kit.plain(), kit.plain(), kit.name());
+    let (out, empty) = (kit.top(), kit.top());
+    let holder = kit.r.pick(&[wrap, 1]);
+    kit.say(|w| w.property(holder, n, part));
+    let object = kit.r.pick(&[0, empty]);
+    kit.say(|w| w.load(0, out, object, n, wrap));
+    kit.expose(out);
+}

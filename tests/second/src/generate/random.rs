@@ -1,0 +1,153 @@
+//! Generator (a): random readable files of any size up to 32,768 bytes, with every kind of record.
+
+use super::halves::{Half, Plan, State};
+use super::writer::Writer;
+use super::Named;
+use crate::prng::Prng;
+
+/// Makes a random readable file: records of all kinds over what was declared before, guarded or not.
+pub fn random(seed: u64) -> Named {
+    let mut r = Prng::new(seed.wrapping_mul(7).wrapping_add(0xA));
+    let plan = plan(&mut r);
+    let mut state = State {
+        w: Writer::new(),
+        plan,
+        halves: [Half::default(), Half::default()],
+        side: 0,
+        free_labels: shuffled(&mut r, 5, 63),
+        free_variables: shuffled(&mut r, 2, 255),
+        free_names: shuffled(&mut r, 0, 31),
+        unwritten: Vec::new(),
+        r,
+    };
+    // 12 bytes for the longest record, 6 for filling up, 9 for each function record still due.
+    while state.w.bytes.len() + 9 * state.unwritten.len() + 9 + 18 <= state.plan.target {
+        state.side = state.r.below(2);
+        state.record();
+    }
+    while let Some((l, side)) = state.unwritten.pop() {
+        state.function(l, side);
+    }
+    let target = state.plan.target;
+    state.w.fill(target);
+    (format!("random-{seed}"), state.w.bytes)
+}
+
+fn plan(r: &mut Prng) -> Plan {
+    let target = match r.below(20) {
+        0 => 32_768,
+        1 => r.between(8_000, 32_768),
+        2..=6 => r.between(1_500, 8_000),
+        7..=14 => r.between(200, 1_500),
+        _ => r.between(0, 200),
+    };
+    let room = (target / 30).max(2);
+    Plan {
+        target,
+        labels: r.between(1, room.min(59)),
+        variables: r.between(1, (2 * room).min(254)),
+        grants: r.pick(&[0, 1, 2, 3, 20]),
+        forbids: r.pick(&[1, 1, 2, 5, 20]),
+        properties: r.pick(&[0, 2, 10, 100]),
+        crossing: r.pick(&[0, 0, 0, 5, 50, 500]),
+        guarded: r.chance(2, 3),
+    }
+}
+
+fn shuffled(r: &mut Prng, low: u8, high: u8) -> Vec<u8> {
+    let mut all: Vec<u8> = (low..=high).collect();
+    r.shuffle(&mut all);
+    all
+}
+
+impl State {
+    /// Writes one record of some kind; where that kind cannot be written yet, none.
+    fn record(&mut self) {
+        if self.r.chance(1, 2) && self.declare() {
+            return;
+        }
+        self.statement();
+    }
+
+    /// Writes a declaring record if the plan has one left.
+    fn declare(&mut self) -> bool {
+        match self.r.below(12) {
+            0 | 1 | 2 if 59 - self.free_labels.len() < self.plan.labels => self.label(),
+            3..=6 if 254 - self.free_variables.len() < self.plan.variables => self.variable(),
+            7 if !self.free_names.is_empty() && self.r.chance(1, 2) => {
+                let n = self.free_names.pop().unwrap_or(0);
+                let mask = 1 | self.r.byte() & self.r.byte();
+                self.w.name(n, mask);
+            }
+            8 if !self.unwritten.is_empty() => {
+                let (l, side) = self.unwritten.remove(0);
+                self.function(l, side);
+            }
+            9 if self.plan.forbids > 0 => return self.forbid(),
+            10 if self.plan.grants > 0 => {
+                if self.plan.guarded {
+                    self.side = 0;
+                }
+                let Some(v) = self.top() else { return false };
+                self.w.grant(v);
+                self.plan.grants -= 1;
+            }
+            11 if self.plan.properties > 0 => {
+                let (Some(l), n, Some(x)) = (self.any_label(), self.r.below(32) as u8, self.any_label()) else {
+                    return false;
+                };
+                self.w.property(l, n, x);
+                self.plan.properties -= 1;
+            }
+            _ => return false,
+        }
+        true
+    }
+
+    fn label(&mut self) {
+        let l = self.free_labels.pop().unwrap_or(5);
+        let kind = self.r.pick(&[1, 1, 2, 2, 3]);
+        let flag = self.r.chance(1, 8) as u8;
+        let half = &mut self.halves[self.side];
+        match kind {
+            1 => half.plain.push(l),
+            2 => half.functions.push(l),
+            _ => half.arrays.push(l),
+        }
+        self.w.label(l, kind, flag);
+        if kind == 2 {
+            self.unwritten.push((l, self.side));
+        }
+    }
+
+    fn variable(&mut self) {
+        let v = self.free_variables.pop().unwrap_or(2);
+        let owner = self.scope();
+        let mut name = 255;
+        if owner == 0 {
+            if self.r.chance(1, 4) {
+                name = (2 * self.r.below(16) + self.side) as u8;
+            }
+            self.halves[self.side].top.push(v);
+        }
+        self.halves[self.side].variables.push(v);
+        self.w.variable(v, owner, name);
+    }
+
+    fn function(&mut self, l: u8, side: usize) {
+        self.side = side;
+        let this = self.var();
+        let formals = self.six();
+        self.w.function(l, this, formals);
+    }
+
+    fn forbid(&mut self) -> bool {
+        if self.plan.guarded {
+            self.side = 1;
+        }
+        let Some(l) = self.any_label() else { return false };
+        self.w.forbid(l);
+        self.plan.forbids -= 1;
+        true
+    }
+}

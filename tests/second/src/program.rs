@@ -1,0 +1,152 @@
+//! What a readable statement file says: its declarations and its records, as plain data.
+
+use crate::rows::bit;
+
+/// The longest statement file that is read.
+pub const LONGEST_FILE: usize = 32_768;
+/// Variable 1, the guest's bag.
+pub const BAG: u8 = 1;
+/// Label 3, whatever the guest makes, and the guest's scope.
+pub const GUEST: u8 = 3;
+
+#[derive(Clone, Copy, PartialEq, Eq, Debug)]
+pub enum Type {
+    Plain,
+    Function,
+    Array,
+}
+
+#[derive(Clone, Copy, PartialEq, Eq, Debug)]
+pub struct Label {
+    pub kind: Type,
+    pub built_in: bool,
+}
+
+#[derive(Clone, Copy, PartialEq, Eq, Debug)]
+pub struct Function {
+    pub this: u8,
+    pub formals: [u8; 6],
+}
+
+#[derive(Clone, Copy, PartialEq, Eq, Debug)]
+pub struct Variable {
+    pub owner: u8,
+    pub name: Option<u8>,
+}
+
+/// A record that has rules of its own; the declaring kinds 1 to 5 are kept in `Program`'s arrays.
+#[derive(Clone, Copy, PartialEq, Eq, Debug)]
+pub enum Record {
+    Grant { v: u8 },
+    Property { l: u8, n: u8, x: u8 },
+    Held { v: u8, l: u8 },
+    Copy { k: u8, y: u8, source: u8 },
+    Load { k: u8, y: u8, object: u8, key: u8, w: u8 },
+    Store { k: u8, object: u8, key: u8, value: u8 },
+    Make { k: u8, y: u8, l: u8 },
+    MakeFunction { k: u8, y: u8, l: u8, q: u8 },
+    Call { k: u8, y: u8, callee: u8, this: u8, args: [u8; 6] },
+    New { k: u8, y: u8, callee: u8, t: u8, l: u8, args: [u8; 6] },
+    Return { k: u8, value: u8 },
+    Throw { k: u8, value: u8 },
+    Catch { k: u8, y: u8 },
+    Prim { k: u8, object: u8 },
+}
+
+/// The guest: scope 3, variable 1 in every variable field, w, l, q = 3 and key 128.
+pub const GUEST_STATEMENTS: [Record; 8] = [
+    Record::MakeFunction { k: GUEST, y: BAG, l: GUEST, q: GUEST },
+    Record::Load { k: GUEST, y: BAG, object: BAG, key: 128, w: GUEST },
+    Record::Store { k: GUEST, object: BAG, key: 128, value: BAG },
+    Record::Call { k: GUEST, y: BAG, callee: BAG, this: BAG, args: [BAG; 6] },
+    Record::New { k: GUEST, y: BAG, callee: BAG, t: BAG, l: GUEST, args: [BAG; 6] },
+    Record::Return { k: GUEST, value: BAG },
+    Record::Throw { k: GUEST, value: BAG },
+    Record::Catch { k: GUEST, y: BAG },
+];
+
+#[derive(Clone, Debug)]
+pub struct Program {
+    pub labels: [Option<Label>; 64],
+    pub functions: [Option<Function>; 64],
+    pub variables: [Option<Variable>; 256],
+    pub masks: [Option<u8>; 32],
+    pub forbidden: u64,
+    /// Records of kinds 6 to 26 in the order of the file.
+    pub records: Vec<Record>,
+    /// The statements of the guest, which belong to no record.
+    pub guest: Vec<Record>,
+}
+
+impl Default for Program {
+    fn default() -> Program {
+        Program::new()
+    }
+}
+
+impl Program {
+    /// What the empty file says: labels 0 to 4, and function 3 with 1 as this and all formals.
+    pub fn new() -> Program {
+        let mut labels = [None; 64];
+        labels[0] = Some(Label { kind: Type::Plain, built_in: false });
+        labels[1] = Some(Label { kind: Type::Plain, built_in: true });
+        labels[2] = Some(Label { kind: Type::Plain, built_in: true });
+        labels[3] = Some(Label { kind: Type::Function, built_in: false });
+        labels[4] = Some(Label { kind: Type::Plain, built_in: true });
+        let mut functions = [None; 64];
+        functions[GUEST as usize] = Some(Function { this: BAG, formals: [BAG; 6] });
+        Program {
+            labels,
+            functions,
+            variables: [None; 256],
+            masks: [None; 32],
+            forbidden: 0,
+            records: Vec::new(),
+            guest: GUEST_STATEMENTS.to_vec(),
+        }
+    }
+
+    /// The declared labels with what was declared of them, ascending.
+    pub fn declared(&self) -> impl Iterator<Item = (u8, Label)> + '_ {
+        (0u8..64).filter_map(|l| self.labels[l as usize].map(|label| (l, label)))
+    }
+
+    /// The declared labels as a row.
+    pub fn declared_row(&self) -> u64 {
+        self.declared().fold(0, |row, (l, _)| row | bit(l))
+    }
+
+    /// The function of label `l`, if `l` is a function label.
+    pub fn function(&self, l: u8) -> Option<Function> {
+        self.labels[l as usize].filter(|label| label.kind == Type::Function)?;
+        self.functions[l as usize]
+    }
+
+    pub fn is_built_in(&self, l: u8) -> bool {
+        self.labels[l as usize].is_some_and(|label| label.built_in)
+    }
+
+    /// True where name `n` is one of the names that the key byte stands for.
+    pub fn key_has(&self, key: u8, n: u8) -> bool {
+        if key < 128 {
+            return key == n;
+        }
+        let mask = self.masks[n as usize].unwrap_or(1);
+        mask >> (key - 128) & 1 == 1
+    }
+
+    /// The names of a key byte, ascending.
+    pub fn names(&self, key: u8) -> impl Iterator<Item = u8> + '_ {
+        (0u8..32).filter(move |&n| self.key_has(key, n))
+    }
+
+    /// The records of the file and then the statements of the guest.
+    pub fn all_records(&self) -> impl Iterator<Item = Record> + '_ {
+        self.records.iter().chain(&self.guest).copied()
+    }
+
+    /// The named variables with their names.
+    pub fn named(&self) -> impl Iterator<Item = (u8, u8)> + '_ {
+        (0u8..=255).filter_map(|v| Some((v, self.variables[v as usize]?.name?)))
+    }
+}

@@ -1,0 +1,138 @@
+//! Every byte value in every field of every kind, against a list of good values written by hand from document 01.
+
+use second::generate::edges;
+use second::reader::read;
+
+/// What a field may be after the preface of `edges`: labels 5 plain, 6 function, 7 array, 8 plain, 9 function, 10 array,
+/// 12 function (its function record still due); variables 2, 3, 5 of owner 0, 4 of 6, 6 of 9; functions 6, 9; name 9.
+#[derive(Clone, Copy)]
+enum Field {
+    Var,
+    NotZero,
+    Top,
+    Scope,
+    Inner,
+    Any,
+    Host,
+    Plain,
+    Made,
+    Func,
+    Name,
+    Key,
+}
+
+use Field::*;
+
+/// 0 where the value is good, else the refusal number.
+fn judge(field: Field, value: u8) -> u8 {
+    let among = |good: &[u8], number| if good.contains(&value) { 0 } else { number };
+    match field {
+        Var => among(&[0, 2, 3, 4, 5, 6], 3),
+        NotZero => among(&[2, 3, 4, 5, 6], 3),
+        Top => among(&[2, 3, 5], 3),
+        Scope => among(&[0, 6, 9, 12], 4),
+        Inner => among(&[6, 9, 12], 4),
+        Any => among(&[0, 1, 2, 3, 4, 5, 6, 7, 8, 9, 10, 12], 4),
+        Host => among(&[0, 1, 2, 4, 5, 6, 7, 8, 9, 10, 12], 4),
+        Plain => among(&[5, 8], 4),
+        Made => among(&[5, 7, 8, 10], 4),
+        Func => among(&[6, 9, 12], 4),
+        Name => {
+            if value <= 31 {
+                0
+            } else {
+                5
+            }
+        }
+        Key => {
+            if value <= 31 || (128..=135).contains(&value) {
+                0
+            } else {
+                5
+            }
+        }
+    }
+}
+
+/// The refusal number for one field (counted from 1) of a kind, all other fields being good.
+fn expected(kind: u8, field: usize, value: u8) -> u8 {
+    let fields: &[Field] = match kind {
+        1 if field == 1 => return if value == 9 { 6 } else { judge(Name, value) },
+        1 => return if value % 2 == 1 { 0 } else { 5 },
+        2 if field == 1 => {
+            return match value {
+                5..=10 | 12 => 6,
+                11 | 13..=63 => 0,
+                _ => 4,
+            }
+        }
+        // A function label whose function record never comes.
+        2 if field == 2 => return [5, 0, 7, 0].get(value as usize).copied().unwrap_or(5),
+        2 => return if value < 2 { 0 } else { 5 },
+        4 if field == 1 => {
+            return match value {
+                12 => 0,
+                6 | 9 => 6,
+                _ => 4,
+            }
+        }
+        4 => return judge(Var, value),
+        5 if field == 1 => {
+            return match value {
+                0 | 1 => 3,
+                2..=6 => 6,
+                _ => 0,
+            }
+        }
+        // The record has name 6, which only owner 0 allows.
+        5 if field == 2 => {
+            return match value {
+                0 => 0,
+                6 | 9 | 12 => 5,
+                _ => 4,
+            }
+        }
+        5 => return if value <= 31 || value == 255 { 0 } else { 5 },
+        3 => &[Any],
+        6 => &[Top],
+        7 => &[Host, Name, Host],
+        8 => &[Top, Host],
+        16 => &[Scope, Var, Var],
+        17 => &[Scope, Var, Var, Key, Plain],
+        18 => &[Scope, Var, Key, Var],
+        19 => &[Scope, Var, Made],
+        20 => &[Scope, Var, Func, Plain],
+        21 => &[Scope, Var, Var, Var, Var, Var, Var, Var, Var, Var],
+        22 => &[Scope, Var, Var, NotZero, Plain, Var, Var, Var, Var, Var, Var],
+        23 => &[Inner, Var],
+        24 | 25 | 26 => &[Scope, Var],
+        _ => panic!("kind {kind}"),
+    };
+    judge(fields[field - 1], value)
+}
+
+#[test]
+fn every_value_of_every_field() {
+    let mut count = 0;
+    for (name, bytes) in edges() {
+        let number = read(&bytes).err().map_or(0, |r| r.number);
+        let parts: Vec<&str> = name.split('-').collect();
+        let expected = match parts[1..] {
+            ["kind", kind] => {
+                if matches!(kind.parse(), Ok(1..=8 | 16..=26)) {
+                    2
+                } else {
+                    1
+                }
+            }
+            [_, "cut", _] => 2,
+            ["4", "due"] => 0,
+            [_, "due"] => 7,
+            [kind, field, value] => expected(kind.parse().unwrap(), field.parse().unwrap(), value.parse().unwrap()),
+            _ => panic!("{name}"),
+        };
+        assert_eq!(number, expected, "{name}");
+        count += 1;
+    }
+    println!("{count} edges");
+}

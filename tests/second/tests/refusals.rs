@@ -1,0 +1,170 @@
+//! The refusals of the reader: their order inside a record, their positions, and what earlier records declare.
+
+use second::generate::writer::Writer;
+use second::generate::{edges, sizes};
+use second::reader::read;
+
+/// Number and position, or (0, 0) for a readable file.
+fn outcome(bytes: &[u8]) -> (u8, usize) {
+    read(bytes).err().map_or((0, 0), |r| (r.number, r.position))
+}
+
+fn after(head: &Writer, record: &[u8]) -> u8 {
+    let bytes = [&head.bytes[..], record].concat();
+    let (number, position) = outcome(&bytes);
+    if number != 0 {
+        assert_eq!(position, if number == 7 { bytes.len() } else { head.bytes.len() }, "{record:?}");
+    }
+    number
+}
+
+/// Labels 5 plain, 6 function, 7 array; variables 2 (top), 3 (top, name 4), 4 (of 6); function 6.
+fn head() -> Writer {
+    let mut w = Writer::new();
+    w.label(5, 1, 0).label(6, 2, 0).label(7, 3, 0).variable(2, 0, 255).variable(3, 0, 4).variable(4, 6, 255);
+    w.function(6, 4, [0; 6]);
+    w
+}
+
+#[test]
+fn unknown_kinds_and_short_records() {
+    let h = head();
+    for kind in [0, 9, 10, 15, 27, 100, 255] {
+        assert_eq!(after(&h, &[kind]), 1);
+    }
+    // Cut short comes before a bad byte in the part that is there.
+    assert_eq!(after(&h, &[2, 64, 9]), 2);
+    assert_eq!(after(&h, &[17, 99, 99, 99, 99]), 2);
+    assert_eq!(after(&h, &[3]), 2);
+    assert_eq!(after(&h, &[22, 0, 0, 0, 0, 0, 0, 0, 0, 0, 0]), 2);
+}
+
+#[test]
+fn bytes_from_the_left() {
+    let h = head();
+    let list: [(&[u8], u8); 24] = [
+        (&[2, 64, 4, 2], 4),
+        (&[2, 8, 4, 2], 5),
+        (&[2, 8, 1, 2], 5),
+        (&[2, 5, 1, 2], 5),
+        (&[2, 5, 1, 1], 6),
+        (&[1, 32, 0], 5),
+        (&[1, 31, 0], 5),
+        (&[4, 5, 9, 0, 0, 0, 0, 0, 0], 4),
+        (&[4, 6, 9, 0, 0, 0, 0, 0, 0], 3),
+        (&[4, 6, 0, 0, 0, 0, 0, 0, 1], 3),
+        (&[4, 6, 0, 0, 0, 0, 0, 0, 0], 6),
+        (&[5, 1, 9, 99], 3),
+        (&[5, 2, 9, 99], 4),
+        (&[5, 2, 0, 99], 5),
+        (&[5, 9, 6, 4], 5),
+        (&[5, 2, 6, 255], 6),
+        (&[7, 3, 32, 3], 4),
+        (&[7, 0, 32, 3], 5),
+        (&[7, 0, 31, 3], 4),
+        (&[16, 5, 9, 9], 4),
+        (&[16, 6, 9, 9], 3),
+        (&[17, 0, 2, 9, 32, 6], 3),
+        (&[17, 0, 2, 2, 32, 6], 5),
+        (&[17, 0, 2, 2, 31, 6], 4),
+    ];
+    for (record, number) in list {
+        assert_eq!(after(&h, record), number, "{record:?}");
+    }
+}
+
+#[test]
+fn each_field_of_each_kind() {
+    let h = head();
+    let list: [(&[u8], u8); 40] = [
+        (&[3, 0], 0),
+        (&[3, 3], 0),
+        (&[3, 8], 4),
+        (&[3, 64], 4),
+        (&[6, 0], 3),
+        (&[6, 1], 3),
+        (&[6, 2], 0),
+        (&[6, 3], 0),
+        (&[6, 4], 3),
+        (&[6, 5], 3),
+        (&[8, 2, 3], 4),
+        (&[8, 2, 4], 0),
+        (&[8, 4, 5], 3),
+        (&[8, 0, 5], 3),
+        (&[7, 1, 0, 2], 0),
+        (&[7, 5, 128, 2], 5),
+        (&[16, 3, 2, 2], 4),
+        (&[16, 0, 1, 2], 3),
+        (&[16, 6, 0, 0], 0),
+        (&[17, 0, 0, 0, 0, 1], 4),
+        (&[17, 0, 0, 0, 0, 7], 4),
+        (&[18, 0, 2, 136, 9], 5),
+        (&[19, 0, 2, 5], 0),
+        (&[19, 0, 2, 7], 0),
+        (&[19, 0, 2, 6], 4),
+        (&[19, 0, 2, 4], 4),
+        (&[20, 0, 2, 6, 5], 0),
+        (&[20, 0, 2, 3, 5], 4),
+        (&[20, 0, 2, 6, 3], 4),
+        (&[20, 0, 2, 6, 7], 4),
+        (&[21, 0, 2, 2, 2, 0, 0, 0, 0, 0, 1], 3),
+        (&[22, 0, 2, 2, 0, 99, 0, 0, 0, 0, 0, 0], 3),
+        (&[22, 0, 2, 2, 2, 99, 1, 0, 0, 0, 0, 0], 4),
+        (&[22, 0, 0, 0, 2, 5, 0, 0, 0, 0, 0, 1], 3),
+        (&[23, 0, 99], 4),
+        (&[23, 6, 99], 3),
+        (&[23, 6, 2], 0),
+        (&[24, 0, 2], 0),
+        (&[25, 0, 0], 0),
+        (&[26, 6, 4], 0),
+    ];
+    for (record, number) in list {
+        assert_eq!(after(&h, record), number, "{record:?}");
+    }
+}
+
+#[test]
+fn only_earlier_records_declare() {
+    let mut w = Writer::new();
+    w.forbid(5).label(5, 1, 0);
+    assert_eq!(outcome(&w.bytes), (4, 0));
+    let mut w = Writer::new();
+    w.label(6, 2, 0).function(6, 2, [0; 6]).variable(2, 0, 255);
+    assert_eq!(outcome(&w.bytes), (3, 4));
+    // A function may be made and be a scope before its function record stands.
+    let mut w = Writer::new();
+    w.label(5, 1, 0).label(6, 2, 0).make_function(6, 0, 6, 5).function(6, 0, [0; 6]);
+    assert_eq!(outcome(&w.bytes), (0, 0));
+}
+
+#[test]
+fn seven_comes_last() {
+    let mut w = Writer::new();
+    w.label(6, 2, 0);
+    assert_eq!(outcome(&w.bytes), (7, 4));
+    w.forbid(6);
+    assert_eq!(outcome(&w.bytes), (7, 6));
+    w.put(&[0]);
+    assert_eq!(outcome(&w.bytes), (1, 6));
+}
+
+#[test]
+fn every_edge_and_size() {
+    let mut counts = [0usize; 10];
+    for (name, bytes) in edges() {
+        let (number, position) = outcome(&bytes);
+        assert!(number < 8 && position <= bytes.len(), "{name}");
+        counts[number as usize] += 1;
+    }
+    println!("edges by refusal number: {counts:?}");
+    assert!((0..8).all(|number| counts[number] > 0));
+    for (name, bytes) in sizes() {
+        let expected = match &name {
+            _ if bytes.len() > 32_768 => (9, 0),
+            _ if name.ends_with("zeros") => (1, 0),
+            _ if name.ends_with("forbids") && bytes.len() % 2 == 1 => (2, bytes.len() - 1),
+            _ => (0, 0),
+        };
+        assert_eq!(outcome(&bytes), expected, "{name}");
+    }
+}

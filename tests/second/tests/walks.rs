@@ -1,0 +1,100 @@
+//! Walks of the handset machine over generated files: no value outside the table, nothing forbidden in the bag.
+
+use second::generate::writer::Writer;
+use second::generate::{random, rounds, structured, Named};
+use second::machine::{walk, witnessed, Stats};
+use second::reader::read;
+use second::rows::s;
+use second::solver::solve;
+
+fn walk_all(title: &str, make: fn(u64) -> Named, seeds: u64, steps: usize) {
+    let mut sum = Stats::default();
+    let (mut facts, mut witnessed) = (0u64, 0u64);
+    for seed in 0..seeds {
+        let (name, file) = make(seed);
+        let program = read(&file).expect("readable");
+        let answer = solve(&program);
+        for round in 0..2 {
+            let stats =
+                walk(&program, &answer.table, seed * 2 + round, steps).unwrap_or_else(|e| panic!("{name}: {e}"));
+            sum.steps += stats.steps;
+            sum.done += stats.done;
+            sum.calls += stats.calls;
+            sum.news += stats.news;
+            sum.prims += stats.prims;
+            sum.returns += stats.returns;
+            sum.throws += stats.throws;
+            sum.handed += stats.handed;
+            sum.catches += stats.catches;
+            sum.stores += stats.stores;
+            sum.found += stats.found;
+            sum.grants += stats.grants;
+            facts += answer.facts as u64;
+            witnessed += stats.witnessed as u64;
+        }
+    }
+    println!("{title}: {witnessed} of {facts} facts witnessed; {sum:?}");
+    let least = [sum.calls, sum.news, sum.returns, sum.throws, sum.handed, sum.catches, sum.stores, sum.found];
+    assert!(least.iter().all(|&count| count > 100), "{title}");
+}
+
+#[test]
+fn random_files() {
+    walk_all("random", random, 300, 1500);
+}
+
+#[test]
+fn structured_files() {
+    walk_all("structured", structured, 600, 2000);
+}
+
+#[test]
+fn rounds_files() {
+    walk_all("rounds", rounds, 160, 2000);
+}
+
+/// Many more files and steps; run with --ignored.
+#[test]
+#[ignore]
+fn long_walks() {
+    walk_all("random", random, 6_000, 4000);
+    walk_all("structured", structured, 20_000, 4000);
+    walk_all("rounds", rounds, 4_000, 4000);
+}
+
+/// The walker does reach what leaks: files 5 and 8 of the list put the forbidden object in the bag.
+#[test]
+fn leaks_are_reached() {
+    let mut five = Writer::new();
+    five.label(5, 1, 0).forbid(5).variable(2, 0, 255).held(2, 5);
+    let mut eight = five.clone();
+    five.grant(2);
+    eight.label(6, 2, 0).variable(3, 0, 255).function(6, 0, [0; 6]).held(3, 6).grant(3).give_back(6, 2);
+    for file in [five.bytes, eight.bytes] {
+        let program = read(&file).expect("readable");
+        let table = solve(&program).table;
+        let seen = witnessed(&program, &table, 0..5, 3000).expect("within the table");
+        assert_eq!(seen[s(1)], table[s(1)]);
+        assert!(seen[s(1)] >> 5 & 1 == 1);
+    }
+}
+
+/// The same seed walks the same way.
+#[test]
+fn walks_repeat() {
+    let program = read(&structured(7).1).expect("readable");
+    let table = solve(&program).table;
+    let once = walk(&program, &table, 9, 2000).map(|stats| format!("{stats:?}"));
+    assert_eq!(once, walk(&program, &table, 9, 2000).map(|stats| format!("{stats:?}")));
+}
+
+/// A walk notices a table from which a needed fact is missing: S(1) of file 5 without label 5.
+#[test]
+fn a_wrong_table_is_noticed() {
+    let mut w = Writer::new();
+    w.label(5, 1, 0).forbid(5).variable(2, 0, 255).held(2, 5).grant(2);
+    let program = read(&w.bytes).expect("readable");
+    let mut table = solve(&program).table;
+    table[s(1)] &= !(1 << 5);
+    assert!((0..5).any(|seed| walk(&program, &table, seed, 500).is_err()));
+}
