@@ -5,11 +5,10 @@ use mathlib.Core.Bool.{Bool, true, false, _&&_, true≢false}
 use Prim.Native.Nat.{ℕ, zero, suc, _+_, _-_, _*_, _≤_, _<_}
 use native.Mathlib.Decide.{decLt}
 use native.Mathlib.Omega.{arith}
-use lib.ListN.{length, getD, replicate, length-append, length-replicate, List·getD-append, List·getD-map, List·getD-eq-default}
-use lib.Seq.{getD-append-add}
+use lib.ListN.{length, getD, replicate, List·getD-map, List·getD-eq-default}
 use lib.Dec.{leb}
 use borrow.Author.Tests.{leb-true}
-use Rattle.layout.specs.Layout.{Class, name, mask, newLabel, type, flag, anyLabel, hostLabel, functionLabel, plainLabel, dataLabel, scope, newVariable, variable, declaredVariable, globalVariable, variableName, key, kinds, fieldsOf, bodyLength, code, classes, classOf, bodyLengths, flat, fieldCodes}
+use Rattle.layout.specs.Layout.{Class, name, mask, newLabel, type, flag, anyLabel, hostLabel, functionLabel, plainLabel, dataLabel, scope, newVariable, variable, declaredVariable, globalVariable, variableName, key, kinds, fieldsOf, bodyLength, code, classes, classOf, bodyLengths, codesOf, fieldCodes}
 
 -- ---- classes and their codes
 
@@ -65,22 +64,6 @@ padded-at [] (suc m) (suc j) = padded-at [] m j
 padded-at (c ∷ cs) m zero = refl
 padded-at (c ∷ cs) m (suc j) = padded-at cs m j
 
-padded-length : (cs : List Class) → length cs ≤ 11 → length (cs ++ replicate (11 - length cs) name) ≡ 11
-padded-length cs h = simp (length-append, length-replicate) (omega arith)
-
-flat-at : (rows : List (List Class)) → allShort rows ≡ true → (k j : ℕ) → j < 11 → getD (flat rows) (11 * k + j) name ≡ getD (getD rows k []) j name
-flat-at [] s k j h = refl
-flat-at (cs ∷ rows) s zero j h =
-    let p = and-parts (leb (length cs) 11) (allShort rows) s in
-    let n = padded-length cs (leb-true _ _ (p .0)) in
-    let e : 11 * 0 + j ≡ j = omega arith in
-    rw e (List·getD-append (cs ++ replicate (11 - length cs) name) (flat rows) name j (omega arith) ∙ padded-at cs (11 - length cs) j)
-flat-at (cs ∷ rows) s (suc k) j h =
-    let p = and-parts (leb (length cs) 11) (allShort rows) s in
-    let n = padded-length cs (leb-true _ _ (p .0)) in
-    let e : 11 * suc k + j ≡ length (cs ++ replicate (11 - length cs) name) + (11 * k + j) = omega arith in
-    rw e (getD-append-add (cs ++ replicate (11 - length cs) name) (flat rows) (11 * k + j) name ∙ flat-at rows (p .1) k j h)
-
 fields-short : (rows : List (List Class)) → allShort rows ≡ true → (k : ℕ) → length (getD rows k []) ≤ 11
 fields-short [] s k = omega arith
 fields-short (cs ∷ rows) s zero = leb-true _ _ (and-parts (leb (length cs) 11) (allShort rows) s .0)
@@ -89,7 +72,16 @@ fields-short (cs ∷ rows) s (suc k) = fields-short rows (and-parts (leb (length
 pub body-short : (k : ℕ) → bodyLength k ≤ 11
 body-short k = fields-short kinds kinds-short k
 
-pub class-at : (k j : ℕ) → j < bodyLength k → classOf (getD fieldCodes (11 * k + j) 0) ≡ getD (fieldsOf k) j name
+-- a row of the table, for a kind that has one
+row-at : (rows : List (List Class)) (k : ℕ) → k < length rows → getD (map codesOf rows) k [] ≡ codesOf (getD rows k [])
+row-at [] k h = absurd (omega arith)
+row-at (cs ∷ rows) zero h = refl
+row-at (cs ∷ rows) (suc k) h = row-at rows k (omega arith)
+
+pub class-at : (k j : ℕ) → k < 27 → classOf (getD (getD fieldCodes k []) j 0) ≡ getD (fieldsOf k) j name
 class-at k j h =
-    let short = body-short k in
-    ap classOf (List·getD-map code (flat kinds) (11 * k + j) name) ∙ class-of-code _ ∙ flat-at kinds kinds-short k j (omega arith)
+    let cs = fieldsOf k in
+    ap (λ (l : List ℕ). classOf (getD l j 0)) (row-at kinds k h)
+    ∙ ap classOf (List·getD-map code (cs ++ replicate (11 - length cs) name) j name)
+    ∙ class-of-code _
+    ∙ padded-at cs (11 - length cs) j

@@ -115,10 +115,9 @@ classOf n = getD classes n key
 abbrev pub bodyLengths : List ℕ
 bodyLengths = map length kinds
 
--- rows drawn out to eleven classes, one behind the other
-abbrev pub flat : List (List Class) → List Class
-flat [] = []
-flat (cs ∷ rows) = (cs ++ replicate (11 - length cs) name) ++ flat rows
+-- the codes of a row, drawn out to eleven
+abbrev pub codesOf : List Class → List ℕ
+codesOf cs = map code (cs ++ replicate (11 - length cs) name)
 
-abbrev pub fieldCodes : List ℕ
-fieldCodes = map code (flat kinds)
+abbrev pub fieldCodes : List (List ℕ)
+fieldCodes = map codesOf kinds

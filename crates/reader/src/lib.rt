@@ -46,15 +46,11 @@ fn read_records(file: &[u8]) -> Reading
             refusal = 2;
             break 'records at;
         }
+        let row = classes[k];
         let body = &file[at + 1..at + 1 + n];
         let mut j: usize = 0;
         'fields: while j < n {
-            let bad = sheet::field_refusal(
-                &sheet.types,
-                &sheet.owners,
-                classes[11 * k + j],
-                body[j],
-            );
+            let bad = sheet::field_refusal(&sheet.types, &sheet.owners, row[j], body[j]);
             if bad != 0 {
                 refusal = bad;
                 break 'records at;

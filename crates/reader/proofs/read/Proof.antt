@@ -1,3 +1,4 @@
+-- `reader::read` meets its contract. Assumes nothing.
 use mathlib.Core.Bool.{Bool}
 use mathlib.Core.Path.{_≡_, refl, sym, ap, _∙_}
 use borrow.Author.Tests.{not-true, not-false}
@@ -7,40 +8,29 @@ use Rattle.reader.proofs.Whole.{too-long, refused-early, read-whole, le
 use borrow.Author.Needs.{needs}
 use Rattle.reader.proofs.read.Statement.{statement}
 use Rattle.reader.proofs.read.Tie as tie
-use Rattle.reader.proofs.read.Reads as reads
-use Rattle.reader.proofs.read.Lts as lts
-use Rattle.reader.proofs.read_records.Reads as read-records-reads
-use Rattle.sheet.proofs.fresh.Reads as fresh-reads
-use Rattle.sheet.proofs.is_complete.Reads as is-complete-reads
 
 -- some label of type 2 has no function
 abbrev lackingIn : format.Sheet → Bool
 lackingIn s = lacking (s .types) (s .defined)
 
--- src/lib.rt:89:20
 fresh-requires : tie.Need-fresh-requires
 fresh-requires c κs = search needs
 
--- src/lib.rt:88:9
 returns : tie.Need-returns
 returns c = rw (too-long (c .before .before .before .args .file .now) (c .before .if1 .taken)) (c .fresh .ensures, (refl, refl))
 
--- src/lib.rt:94:9
 read-records-requires : tie.Need-read-records-requires
 read-records-requires c κs = search needs
 
--- src/lib.rt:97:9
 returns-2 : tie.Need-returns-2
 returns-2 c =
     let r = c .before .read-records .ensures in
     let a = refused-early (c .before .before .before .before .args .file .now) (c .before .before .if1 .left) (λ z. c .if2 .taken (r .1 .0 ∙ z)) in
     (r .0 ∙ a .sheet-same, (r .1 .0 ∙ a .refusal-same, r .1 .1 ∙ a .position-same))
 
--- src/lib.rt:100:8
 is-complete-requires : tie.Need-is-complete-requires
 is-complete-requires c κs = search needs
 
--- src/lib.rt:101:9
 returns-3 : tie.Need-returns-3
 returns-3 c =
     let e = c .before .before .before .before .before .before .before .before in
@@ -48,7 +38,6 @@ returns-3 c =
     let a = read-whole (e .before .before .before .before .args .file .now) (e .before .before .if1 .left) (sym (r .1 .0) ∙ e .if2 .left) (ap lackingIn (sym (r .0)) ∙ not-true _ (sym (c .before .is-complete .ensures) ∙ c .if3 .taken)) in
     (r .0 ∙ a .sheet-same, (r .1 .0 ∙ a .refusal-same, r .1 .1 ∙ a .position-same))
 
--- src/lib.rt:82:1
 returns-4 : tie.Need-returns-4
 returns-4 c =
     let e = c .before .before .before .before .before .before .before .before in

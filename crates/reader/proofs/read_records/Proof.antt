@@ -1,8 +1,9 @@
+-- `reader::read_records` meets its contract. Assumes nothing.
 use mathlib.Core.Path.{_≡_, refl, sym, ap, _∙_, subst}
 use mathlib.Core.Logic.{⊎-elim}
 use Prim.Native.Nat.{ℕ, _≤_, _<_, _-_, _+_, _*_}
 use native.Mathlib.Omega.{arith}
-use mathlib.Core.List.{List}
+use mathlib.Core.List.{List, []}
 use lib.ListN.{length, getD, take, drop}
 use Rattle.layout.specs.Layout.{Class, name, fieldsOf, classOf}
 use Rattle.layout.proofs.Table.{length-at, class-at, body-short, no-kind}
@@ -17,25 +18,15 @@ use Rattle.reader.proofs.Marks.{refusal-judging, marked, taken-back, de
 use borrow.Author.Needs.{needs}
 use Rattle.reader.proofs.read_records.Statement.{statement}
 use Rattle.reader.proofs.read_records.Tie as tie
-use Rattle.reader.proofs.read_records.Reads as reads
-use Rattle.reader.proofs.read_records.Lts as lts
-use Rattle.layout.proofs.classes.Reads as classes-reads
-use Rattle.layout.proofs.lengths.Reads as lengths-reads
-use Rattle.sheet.proofs.Sheet.take.Reads as take-reads
-use Rattle.sheet.proofs.field_refusal.Reads as field-refusal-reads
-use Rattle.sheet.proofs.fresh.Reads as fresh-reads
-use Rattle.sheet.proofs.is_declaration.Reads as is-declaration-reads
-use Rattle.sheet.proofs.mark_forbidden.Reads as mark-forbidden-reads
-use Rattle.sheet.proofs.mark_returned.Reads as mark-returned-reads
 
 abbrev Inv-fields : tie.InvT-fields
-Inv-fields file lengths classes sheet refusal₀ at kind k n body j₀ refusal j =
+Inv-fields file lengths classes sheet refusal₀ at kind k n row body j₀ refusal j =
     (refusal ≡ refusal₀)
     × (j ≤ n)
     × (firstBad 64 (sheetOf sheet) (drop j (fieldsOf kind)) (drop j body) ≡ firstBad 64 (sheetOf sheet) (fieldsOf kind) body)
 
 abbrev μ-fields : tie.MeasureT-fields
-μ-fields file lengths classes sheet refusal₀ at kind k n body j₀ refusal j = n - j
+μ-fields file lengths classes sheet refusal₀ at kind k n row body j₀ refusal j = n - j
 
 abbrev Inv-records : tie.InvT-records
 Inv-records file lengths classes sheet₀ refusal₀ at₀ sheet refusal at = (refusal ≡ 0) × (at ≤ length file) × On file (sheetOf sheet) at
@@ -45,28 +36,28 @@ abbrev μ-records : tie.MeasureT-records
 
 -- where the body of a record is at hand: the file, the sheet, the position, the record's kind
 abbrev file-at : tie.After-body Inv-fields μ-fields Inv-records μ-records → List ℕ
-file-at c = c .before .before .before .before .before .before .before .before .before .before .before .args .file .now
+file-at c = c .before .before .before .before .before .before .before .before .before .before .before .before .args .file .now
 
 abbrev sheet-at : tie.After-body Inv-fields μ-fields Inv-records μ-records → format.Sheet
-sheet-at c = sheetOf (c .before .before .before .before .before .before .records .sheet)
+sheet-at c = sheetOf (c .before .before .before .before .before .before .before .records .sheet)
 
 abbrev place-at : tie.After-body Inv-fields μ-fields Inv-records μ-records → ℕ
-place-at c = c .before .before .before .before .before .before .records .at
+place-at c = c .before .before .before .before .before .before .before .records .at
 
 abbrev kind-at : tie.After-body Inv-fields μ-fields Inv-records μ-records → ℕ
 kind-at c = getD (file-at c) (place-at c) 0
 
 abbrev length-of : tie.After-body Inv-fields μ-fields Inv-records μ-records → ℕ
-length-of c = getD (c .before .before .before .before .before .before .before .before .before .lengths .result) (kind-at c) 0
+length-of c = getD (c .before .before .before .before .before .before .before .before .before .before .lengths .result) (kind-at c) 0
 
 -- a whole record starts there
 here : (c : tie.After-body Inv-fields μ-fields Inv-records μ-records) → Here (file-at c) (sheet-at c) (place-at c) (length-of c)
 here c = record {
-  on = c .before .before .before .before .before .before .records .inv .2;
-  inside = c .before .before .before .before .before .if1 .left;
-  is = ap (λ (l : List ℕ). getD l (kind-at c) 0) (c .before .before .before .before .before .before .before .before .before .lengths .ensures) ∙ length-at (kind-at c);
-  some = c .before .before .if3 .left;
-  room = c .before .if4 .left;
+  on = c .before .before .before .before .before .before .before .records .inv .2;
+  inside = c .before .before .before .before .before .before .if1 .left;
+  is = ap (λ (l : List ℕ). getD l (kind-at c) 0) (c .before .before .before .before .before .before .before .before .before .before .lengths .ensures) ∙ length-at (kind-at c);
+  some = c .before .before .before .if3 .left;
+  room = c .before .before .if4 .left;
 }
 
 -- in the loop over the fields: field j is one of the kind's, and of the body
@@ -96,11 +87,12 @@ field-is : (c : tie.After-field-refusal Inv-fields μ-fields Inv-records μ-reco
 field-is c =
     let f = c .before .before .before .before .before .before .before .before in
     let b = f .before in
-    let codes = b .before .before .before .before .before .before .before .before .classes .ensures in
+    let codes = b .before .before .before .before .before .before .before .before .before .classes .ensures in
     c .field-refusal .ensures
     ∙ refusal-judging (sheet-at b) _ _
     ∙ ap (λ (k : Class). fieldRefusal (sheet-at b) k (getD (part (file-at b) (place-at b) (length-of b)) (f .fields .j) 0))
-    (ap (λ (l : List ℕ). classOf (getD l (11 * kind-at b + f .fields .j) 0)) codes ∙ class-at (kind-at b) (f .fields .j) (inside-fields c))
+    (ap (λ (l : List (List ℕ)). classOf (getD (getD l (kind-at b) []) (f .fields .j) 0)) codes
+    ∙ class-at (kind-at b) (f .fields .j) (b .before .before .before .before .if2 .left))
 
 -- after it no field is bad
 fields-all : (c : tie.After-fields Inv-fields μ-fields Inv-records μ-records) →
@@ -136,83 +128,63 @@ made c =
     (undeclaring-passes s k body no, ap (λ (z : Sheet). marked (sheetOf z) k body) (w .1) ∙ undeclared-marks s k body no))
     (j .if6 .came)
 
--- src/lib.rt:25:19
 lengths-requires : tie.Need-lengths-requires Inv-fields μ-fields Inv-records μ-records
 lengths-requires c κs = search needs
 
--- src/lib.rt:26:19
 classes-requires : tie.Need-classes-requires Inv-fields μ-fields Inv-records μ-records
 classes-requires c κs = search needs
 
--- src/lib.rt:27:21
 fresh-requires : tie.Need-fresh-requires Inv-fields μ-fields Inv-records μ-records
 fresh-requires c κs = search needs
 
--- src/lib.rt:30:9
 records-holds : tie.Need-records-holds Inv-fields μ-fields Inv-records μ-records
 records-holds c = (refl, search needs, rw (c .fresh .ensures) (on-start _))
 
--- src/lib.rt:34:20
 shared-slice-read-kind : tie.Need-shared-slice-read-kind Inv-fields μ-fields Inv-records μ-records
 shared-slice-read-kind c = search needs
 
--- src/lib.rt:35:17
 cast-k : tie.Need-cast-k Inv-fields μ-fields Inv-records μ-records
 cast-k c = omega (arith, c .shared-slice-known2 .given (c .before .before .records .at))
 
--- src/lib.rt:40:17
 array-read-n : tie.Need-array-read-n Inv-fields μ-fields Inv-records μ-records
 array-read-n c = search needs
 
--- src/lib.rt:40:17
 cast-n : tie.Need-cast-n Inv-fields μ-fields Inv-records μ-records
 cast-n c = search needs
 
--- src/lib.rt:45:12
 sub-if4 : tie.Need-sub-if4 Inv-fields μ-fields Inv-records μ-records
 sub-if4 c = search needs
 
--- src/lib.rt:45:12
 sub-if4-2 : tie.Need-sub-if4-2 Inv-fields μ-fields Inv-records μ-records
 sub-if4-2 c = search needs
 
--- src/lib.rt:49:26
 add-body : tie.Need-add-body Inv-fields μ-fields Inv-records μ-records
 add-body c = search needs
 
--- src/lib.rt:49:34
 add-body-2 : tie.Need-add-body-2 Inv-fields μ-fields Inv-records μ-records
 add-body-2 c = search needs
 
--- src/lib.rt:49:34
 add-body-3 : tie.Need-add-body-3 Inv-fields μ-fields Inv-records μ-records
 add-body-3 c = search needs
 
--- src/lib.rt:49:20
 sub-body : tie.Need-sub-body Inv-fields μ-fields Inv-records μ-records
 sub-body c = search needs
 
--- src/lib.rt:49:20
 part-body-start : tie.Need-part-body-start Inv-fields μ-fields Inv-records μ-records
 part-body-start c = search needs
 
--- src/lib.rt:49:20
 part-body-end : tie.Need-part-body-end Inv-fields μ-fields Inv-records μ-records
 part-body-end c = search needs
 
--- src/lib.rt:51:9
 fields-holds : tie.Need-fields-holds Inv-fields μ-fields Inv-records μ-records
 fields-holds c = (refl, search needs, refl)
 
--- src/lib.rt:52:81
-mul-field-refusal : tie.Need-mul-field-refusal Inv-fields μ-fields Inv-records μ-records
-mul-field-refusal c = search needs
+mul-row : tie.Need-mul-row Inv-fields μ-fields Inv-records μ-records
+mul-row c = search needs
 
--- src/lib.rt:52:81
-add-field-refusal : tie.Need-add-field-refusal Inv-fields μ-fields Inv-records μ-records
-add-field-refusal c = search needs
+array-copy-out-row : tie.Need-array-copy-out-row Inv-fields μ-fields Inv-records μ-records
+array-copy-out-row c = search needs
 
--- src/lib.rt:52:73
 array-read-field-refusal :
     tie.Need-array-read-field-refusal Inv-fields μ-fields Inv-records μ-records
 array-read-field-refusal c =
@@ -221,40 +193,32 @@ array-read-field-refusal c =
     let e = h .is in
     omega arith
 
--- src/lib.rt:52:94
 shared-slice-read-field-refusal :
     tie.Need-shared-slice-read-field-refusal Inv-fields μ-fields Inv-records μ-records
 shared-slice-read-field-refusal c = search needs
 
--- src/lib.rt:52:17
 field-refusal-requires : tie.Need-field-refusal-requires Inv-fields μ-fields Inv-records μ-records
 field-refusal-requires c κs = search needs
 
--- src/lib.rt:57:13
 add-j : tie.Need-add-j Inv-fields μ-fields Inv-records μ-records
 add-j c = search needs
 
--- src/lib.rt:51:9
 fields-less : tie.Need-fields-less Inv-fields μ-fields Inv-records μ-records
 fields-less c = search needs
 
--- src/lib.rt:51:9
 fields-again : tie.Need-fields-again Inv-fields μ-fields Inv-records μ-records
 fields-again c =
     let f = c .before .before .before .before .before .before .before .before .before in
     let b = f .before in
     (search needs, search needs, sym (fields-on _ _ _ _ (inside-fields (c .before)) (inside-body (c .before)) (sym (field-is (c .before)) ∙ c .if5 .left)) ∙ f .fields .inv .2)
 
--- src/lib.rt:59:12
 is-declaration-requires :
     tie.Need-is-declaration-requires Inv-fields μ-fields Inv-records μ-records
 is-declaration-requires c κs = search needs
 
--- src/lib.rt:60:17
 take-requires : tie.Need-take-requires Inv-fields μ-fields Inv-records μ-records
 take-requires c κs = here-fits (here (c .before .before .before .before)) (fields-all (c .before .before))
 
--- src/lib.rt:69:13
 mark-forbidden-requires :
     tie.Need-mark-forbidden-requires Inv-fields μ-fields Inv-records μ-records
 mark-forbidden-requires c κs = λ e.
@@ -262,26 +226,21 @@ mark-forbidden-requires c κs = λ e.
     let b = f .before .before in
     forbid-body (sheet-at b) (part (file-at b) (place-at b) (length-of b)) (here b .on .sized .types-length) (subst (λ (k : ℕ). Fits 64 (sheet-at b) (fieldsOf k) (part (file-at b) (place-at b) (length-of b))) e (here-fits (here b) (fields-all f)))
 
--- src/lib.rt:71:9
 mark-returned-requires : tie.Need-mark-returned-requires Inv-fields μ-fields Inv-records μ-records
 mark-returned-requires c κs = λ e.
     let f = c .before .before .before .before in
     let b = f .before .before in
     return-body (sheet-at b) (part (file-at b) (place-at b) (length-of b)) (here b .on .sized .types-length) (here b .on .sized .owners-length) (subst (λ (k : ℕ). Fits 64 (sheet-at b) (fieldsOf k) (part (file-at b) (place-at b) (length-of b))) e (here-fits (here b) (fields-all f)))
 
--- src/lib.rt:72:14
 add-at : tie.Need-add-at Inv-fields μ-fields Inv-records μ-records
 add-at c = search needs
 
--- src/lib.rt:72:14
 add-at-2 : tie.Need-add-at-2 Inv-fields μ-fields Inv-records μ-records
 add-at-2 c = search needs
 
--- src/lib.rt:30:9
 records-less : tie.Need-records-less Inv-fields μ-fields Inv-records μ-records
 records-less c = search needs
 
--- src/lib.rt:30:9
 records-again : tie.Need-records-again Inv-fields μ-fields Inv-records μ-records
 records-again c =
     let j = c .before .before .before in
@@ -291,22 +250,19 @@ records-again c =
     let k = kind-at b in
     let body = part (file-at b) (place-at b) (length-of b) in
     let m = made c in
-    (search needs, next-within (here b .inside) (here b .room), rw (c .before .before .mark-forbidden .ensures, c .mark-returned .ensures) (subst (λ (z : format.Sheet). On (file-at b) z (place-at b + 1 + length-of b)) (sym (m .1)) (here-next (here b) (fields-all f) (m .0))))
+    (f .before .fields .inv .0 ∙ b .before .before .before .before .before .before .before .records .inv .0, next-within (here b .inside) (here b .room), rw (c .before .before .mark-forbidden .ensures, c .mark-returned .ensures) (subst (λ (z : format.Sheet). On (file-at b) z (place-at b + 1 + length-of b)) (sym (m .1)) (here-next (here b) (fields-all f) (m .0))))
 
--- src/lib.rt:20:1
 returns : tie.Need-returns Inv-fields μ-fields Inv-records μ-records
 returns c =
     let a = at-end _ _ _ (c .before .records .inv .2) (c .if1 .taken) in
     (a .sheet-same, (rw (c .before .records .inv .0) (a .refusal-same), a .position-same))
 
--- src/lib.rt:20:1
 returns-2 : tie.Need-returns-2 Inv-fields μ-fields Inv-records μ-records
 returns-2 c =
     let r = c .before .before .before .records in
     let a = unknown-kind _ _ _ (r .inv .2) (c .before .before .if1 .left) (no-kind _ (c .if2 .taken)) in
     (a .sheet-same, (a .refusal-same, a .position-same))
 
--- src/lib.rt:20:1
 returns-3 : tie.Need-returns-3 Inv-fields μ-fields Inv-records μ-records
 returns-3 c =
     let r = c .before .before .before .before .records in
@@ -315,7 +271,6 @@ returns-3 c =
     let a = unknown-kind _ _ _ (r .inv .2) (c .before .before .before .if1 .left) (sym e ∙ c .if3 .taken) in
     (a .sheet-same, (a .refusal-same, a .position-same))
 
--- src/lib.rt:20:1
 returns-4 : tie.Need-returns-4 Inv-fields μ-fields Inv-records μ-records
 returns-4 c =
     let r = c .before .before .before .before .before .records in
@@ -324,7 +279,6 @@ returns-4 c =
     let a = cut-short _ _ _ (r .inv .2) (c .before .before .before .before .if1 .left) _ e (c .before .if3 .left) (c .if4 .taken) in
     (a .sheet-same, (a .refusal-same, a .position-same))
 
--- src/lib.rt:20:1
 returns-5 : tie.Need-returns-5 Inv-fields μ-fields Inv-records μ-records
 returns-5 c =
     let f = c .before .before .before .before .before .before .before .before .before in
@@ -332,7 +286,6 @@ returns-5 c =
     let a = here-bad-field (here (f .before)) _ e (c .if5 .taken) in
     (a .sheet-same, (a .refusal-same, a .position-same))
 
--- src/lib.rt:20:1
 returns-6 : tie.Need-returns-6 Inv-fields μ-fields Inv-records μ-records
 returns-6 c =
     let f = c .before .before .before .before in
@@ -358,6 +311,8 @@ read-records-spec =
     cast-n
     sub-if4
     sub-if4-2
+    mul-row
+    array-copy-out-row
     add-body
     add-body-2
     add-body-3
@@ -365,8 +320,6 @@ read-records-spec =
     part-body-start
     part-body-end
     fields-holds
-    mul-field-refusal
-    add-field-refusal
     array-read-field-refusal
     shared-slice-read-field-refusal
     field-refusal-requires

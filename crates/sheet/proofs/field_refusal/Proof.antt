@@ -1,26 +1,19 @@
+-- `sheet::field_refusal` meets its contract. Assumes nothing.
 use Rattle.sheet.specs.View.{fieldRefusal}
 use borrow.Author.Needs.{needs}
 use Rattle.sheet.proofs.field_refusal.Statement.{statement}
 use Rattle.sheet.proofs.field_refusal.Tie as tie
-use Rattle.sheet.proofs.field_refusal.Reads as reads
-use Rattle.sheet.proofs.field_refusal.Lts as lts
-use Rattle.sheet.proofs.is_good.Reads as is-good-reads
-use Rattle.sheet.proofs.refusal_of.Reads as refusal-of-reads
 
--- src/lib.rt:155:8
 is-good-requires : tie.Need-is-good-requires
 is-good-requires c κs = search needs
 
--- src/lib.rt:156:9
 returns : tie.Need-returns
 unfolding fieldRefusal
 returns c = rw (← c .before .is-good .ensures, c .if1 .taken)
 
--- src/lib.rt:158:5
 refusal-of-requires : tie.Need-refusal-of-requires
 refusal-of-requires c κs = search needs
 
--- src/lib.rt:152:1
 returns-2 : tie.Need-returns-2
 unfolding fieldRefusal
 returns-2 c = rw (← c .before .before .is-good .ensures, c .before .if1 .left) (c .refusal-of .ensures)

@@ -1,3 +1,4 @@
+-- `sheet::is_complete` meets its contract. Assumes nothing.
 use mathlib.Core.Bool.{not}
 use borrow.Author.Needs.{needs}
 use mathlib.Core.Path.{_≡_, refl, sym, ap, _∙_}
@@ -7,9 +8,6 @@ use Rattle.format.specs.Reading.{lacking}
 use Rattle.sheet.proofs.Laws.{lacking-here, lacking-on, lacking-end}
 use Rattle.sheet.proofs.is_complete.Statement.{statement}
 use Rattle.sheet.proofs.is_complete.Tie as tie
-use Rattle.sheet.proofs.is_complete.Reads as reads
-use Rattle.sheet.proofs.is_complete.Lts as lts
-use Rattle.sheet.proofs.both.Reads as both-reads
 
 abbrev Inv-loop : tie.InvT-loop
 Inv-loop types defined l₀ l = (l ≤ length types) × (lacking types defined ≡ lacking (drop l types) (drop l defined))
@@ -17,23 +15,18 @@ Inv-loop types defined l₀ l = (l ≤ length types) × (lacking types defined �
 abbrev μ-loop : tie.MeasureT-loop
 μ-loop types defined l₀ l = length types - l
 
--- src/lib.rt:297:5
 loop-holds : tie.Need-loop-holds Inv-loop μ-loop
 loop-holds c = (search needs, refl)
 
--- src/lib.rt:298:17
 shared-slice-read-both : tie.Need-shared-slice-read-both Inv-loop μ-loop
 shared-slice-read-both c = search needs
 
--- src/lib.rt:298:32
 shared-slice-read-both-2 : tie.Need-shared-slice-read-both-2 Inv-loop μ-loop
 shared-slice-read-both-2 c = search needs
 
--- src/lib.rt:298:12
 both-requires : tie.Need-both-requires Inv-loop μ-loop
 both-requires c κs = search needs
 
--- src/lib.rt:299:13
 returns : tie.Need-returns Inv-loop μ-loop
 returns c =
     let r = c .before .before .before .before .before .loop in
@@ -41,15 +34,12 @@ returns c =
     let e = lacking-here (a .types .now) (a .defined .now) (r .l) (search needs) (search needs) (sym (c .before .both .ensures) ∙ c .if1 .taken) in
     ap not (sym (r .inv .1 ∙ e))
 
--- src/lib.rt:301:9
 add-l : tie.Need-add-l Inv-loop μ-loop
 add-l c = search needs
 
--- src/lib.rt:297:5
 loop-less : tie.Need-loop-less Inv-loop μ-loop
 loop-less c = search needs
 
--- src/lib.rt:297:5
 loop-again : tie.Need-loop-again Inv-loop μ-loop
 loop-again c =
     let r = c .before .before .before .before .before .loop in
@@ -57,7 +47,6 @@ loop-again c =
     let e = lacking-on (a .types .now) (a .defined .now) (r .l) (search needs) (search needs) (sym (c .before .both .ensures) ∙ c .if1 .left) in
     (search needs, r .inv .1 ∙ e)
 
--- src/lib.rt:292:1
 returns-2 : tie.Need-returns-2 Inv-loop μ-loop
 returns-2 c =
     let r = c .before .loop in

@@ -1,23 +1,17 @@
+-- `sheet::is_declaration` meets its contract. Assumes nothing.
 use borrow.Author.Needs.{needs}
 use Rattle.sheet.proofs.is_declaration.Statement.{statement}
 use Rattle.sheet.proofs.is_declaration.Tie as tie
-use Rattle.sheet.proofs.is_declaration.Reads as reads
-use Rattle.sheet.proofs.is_declaration.Lts as lts
-use Rattle.sheet.proofs.either.Reads as either-reads
 
--- src/lib.rt:159:41
 either-requires : tie.Need-either-requires
 either-requires c κs = search needs
 
--- src/lib.rt:159:23
 either-requires-2 : tie.Need-either-requires-2
 either-requires-2 c κs = search needs
 
--- src/lib.rt:159:5
 either-requires-3 : tie.Need-either-requires-3
 either-requires-3 c κs = search needs
 
--- src/lib.rt:156:1
 returns : tie.Need-returns
 returns c = rw (c .either3 .ensures, c .before .either2 .ensures, c .before .before .either .ensures)
 

@@ -1,3 +1,4 @@
+-- `sheet::is_good` meets its contract. Assumes nothing.
 use Prim.Native.Nat.{_≤_}
 use native.Mathlib.Omega.{arith}
 use Rattle.layout.proofs.Table.{class-rest}
@@ -6,179 +7,134 @@ use Rattle.format.specs.Fields.{good}
 use borrow.Author.Needs.{needs}
 use Rattle.sheet.proofs.is_good.Statement.{statement}
 use Rattle.sheet.proofs.is_good.Tie as tie
-use Rattle.sheet.proofs.is_good.Reads as reads
-use Rattle.sheet.proofs.is_good.Lts as lts
-use Rattle.sheet.proofs.both.Reads as both-reads
-use Rattle.sheet.proofs.either.Reads as either-reads
-use Rattle.sheet.proofs.made.Reads as made-reads
-use Rattle.sheet.proofs.owner_of.Reads as owner-of-reads
-use Rattle.sheet.proofs.type_of.Reads as type-of-reads
 
--- src/lib.rt:71:14
 both-requires : tie.Need-both-requires
 both-requires c κs = search needs
 
--- src/lib.rt:72:14
 both-requires-2 : tie.Need-both-requires-2
 both-requires-2 c κs = search needs
 
--- src/lib.rt:74:14
 type-of-requires : tie.Need-type-of-requires
 type-of-requires c κs = search needs
 
--- src/lib.rt:75:27
 type-of-requires-2 : tie.Need-type-of-requires-2
 type-of-requires-2 c κs = search needs
 
--- src/lib.rt:75:14
 both-requires-3 : tie.Need-both-requires-3
 both-requires-3 c κs = search needs
 
--- src/lib.rt:76:14
 made-requires : tie.Need-made-requires
 made-requires c κs = search needs
 
--- src/lib.rt:77:14
 made-requires-2 : tie.Need-made-requires-2
 made-requires-2 c κs = search needs
 
--- src/lib.rt:78:34
 type-of-requires-3 : tie.Need-type-of-requires-3
 type-of-requires-3 c κs = search needs
 
--- src/lib.rt:78:58
 type-of-requires-4 : tie.Need-type-of-requires-4
 type-of-requires-4 c κs = search needs
 
--- src/lib.rt:78:27
 either-requires : tie.Need-either-requires
 either-requires c κs = search needs
 
--- src/lib.rt:78:14
 both-requires-4 : tie.Need-both-requires-4
 both-requires-4 c κs = search needs
 
--- src/lib.rt:79:30
 made-requires-3 : tie.Need-made-requires-3
 made-requires-3 c κs = search needs
 
--- src/lib.rt:79:15
 either-requires-2 : tie.Need-either-requires-2
 either-requires-2 c κs = search needs
 
--- src/lib.rt:80:15
 both-requires-5 : tie.Need-both-requires-5
 both-requires-5 c κs = search needs
 
--- src/lib.rt:81:30
 owner-of-requires : tie.Need-owner-of-requires
 owner-of-requires c κs = search needs
 
--- src/lib.rt:81:15
 either-requires-3 : tie.Need-either-requires-3
 either-requires-3 c κs = search needs
 
--- src/lib.rt:82:15
 owner-of-requires-2 : tie.Need-owner-of-requires-2
 owner-of-requires-2 c κs = search needs
 
--- src/lib.rt:83:15
 owner-of-requires-3 : tie.Need-owner-of-requires-3
 owner-of-requires-3 c κs = search needs
 
--- src/lib.rt:84:15
 either-requires-4 : tie.Need-either-requires-4
 either-requires-4 c κs = search needs
 
--- src/lib.rt:85:29
 both-requires-6 : tie.Need-both-requires-6
 both-requires-6 c κs = search needs
 
--- src/lib.rt:85:14
 either-requires-5 : tie.Need-either-requires-5
 either-requires-5 c κs = search needs
 
--- src/lib.rt:65:1
 returns : tie.Need-returns
 unfolding good
 returns c = rw (c .match .keys1)
 
--- src/lib.rt:65:1
 returns-2 : tie.Need-returns-2
 unfolding good
 returns-2 c = rw (c .match .keys2)
 
--- src/lib.rt:65:1
 returns-3 : tie.Need-returns-3
 unfolding good
 returns-3 c = rw (c .before .match .keys3) (c .both .ensures)
 
--- src/lib.rt:65:1
 returns-4 : tie.Need-returns-4
 unfolding good
 returns-4 c = rw (c .before .match .keys4) (c .both2 .ensures)
 
--- src/lib.rt:65:1
 returns-5 : tie.Need-returns-5
 unfolding good
 returns-5 c = rw (c .match .keys5)
 
--- src/lib.rt:65:1
 returns-6 : tie.Need-returns-6
 unfolding good
 returns-6 c = rw (c .before .match .keys6, c .type-of .ensures)
 
--- src/lib.rt:65:1
 returns-7 : tie.Need-returns-7
 unfolding good
 returns-7 c = rw (c .before .before .match .keys7, ← c .before .type-of2 .ensures) (c .both3 .ensures)
 
--- src/lib.rt:65:1
 returns-8 : tie.Need-returns-8
 unfolding good
 returns-8 c = rw (c .before .match .keys8) (c .made .ensures)
 
--- src/lib.rt:65:1
 returns-9 : tie.Need-returns-9
 unfolding good
 returns-9 c = rw (c .before .match .keys9) (c .made2 .ensures)
 
--- src/lib.rt:65:1
 returns-10 : tie.Need-returns-10
 unfolding good
 returns-10 c = rw (c .before .before .before .before .match .keys10, c .both4 .ensures, c .before .either .ensures, c .before .before .type-of4 .ensures, c .before .before .before .type-of3 .ensures)
 
--- src/lib.rt:65:1
 returns-11 : tie.Need-returns-11
 unfolding good
 returns-11 c = rw (c .before .before .match .keys11, ← c .before .made3 .ensures) (c .either2 .ensures)
 
--- src/lib.rt:65:1
 returns-12 : tie.Need-returns-12
 unfolding good
 returns-12 c = rw (c .before .match .keys12) (c .both5 .ensures)
 
--- src/lib.rt:65:1
 returns-13 : tie.Need-returns-13
 unfolding good
 returns-13 c = rw (c .before .before .match .keys13, ← c .before .owner-of .ensures) (c .either3 .ensures)
 
--- src/lib.rt:65:1
 returns-14 : tie.Need-returns-14
 unfolding good
 returns-14 c = rw (c .before .match .keys14, c .owner-of2 .ensures)
 
--- src/lib.rt:65:1
 returns-15 : tie.Need-returns-15
 unfolding good
 returns-15 c = rw (c .before .match .keys15, c .owner-of3 .ensures)
 
--- src/lib.rt:65:1
 returns-16 : tie.Need-returns-16
 unfolding good
 returns-16 c = rw (c .before .match .keys16) (c .either4 .ensures)
 
--- src/lib.rt:65:1
 returns-17 : tie.Need-returns-17
 unfolding good
 returns-17 c =

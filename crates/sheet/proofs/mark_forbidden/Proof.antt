@@ -1,20 +1,15 @@
+-- `sheet::mark_forbidden` meets its contract. Assumes nothing.
 use borrow.Author.Tests.{ne-eqb}
 use Rattle.sheet.specs.View.{forbidding}
 use Rattle.sheet.proofs.mark_forbidden.Statement.{statement}
 use Rattle.sheet.proofs.mark_forbidden.Tie as tie
-use Rattle.sheet.proofs.mark_forbidden.Reads as reads
-use Rattle.sheet.proofs.mark_forbidden.Lts as lts
-use Rattle.sheet.proofs.forbid.Reads as forbid-reads
 
--- src/lib.rt:279:9
 forbid-requires : tie.Need-forbid-requires
 forbid-requires c κs = c .before .before .pre (c .if1 .taken)
 
--- src/lib.rt:279:9
 returns : tie.Need-returns
 returns c = rw (c .before .if1 .taken) (c .forbid .ensures)
 
--- src/lib.rt:274:1
 returns-2 : tie.Need-returns-2
 unfolding forbidding
 returns-2 c = rw (ne-eqb _ _ (c .if1 .left))

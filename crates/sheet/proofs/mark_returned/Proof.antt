@@ -1,20 +1,15 @@
+-- `sheet::mark_returned` meets its contract. Assumes nothing.
 use borrow.Author.Tests.{ne-eqb}
 use Rattle.sheet.specs.View.{returning}
 use Rattle.sheet.proofs.mark_returned.Statement.{statement}
 use Rattle.sheet.proofs.mark_returned.Tie as tie
-use Rattle.sheet.proofs.mark_returned.Reads as reads
-use Rattle.sheet.proofs.mark_returned.Lts as lts
-use Rattle.sheet.proofs.note_return.Reads as note-return-reads
 
--- src/lib.rt:329:9
 note-return-requires : tie.Need-note-return-requires
 note-return-requires c κs = c .before .before .before .pre (c .before .if1 .taken)
 
--- src/lib.rt:324:1
 returns : tie.Need-returns
 returns c = rw (c .before .before .if1 .taken) (c .note-return .ensures)
 
--- src/lib.rt:324:1
 returns-2 : tie.Need-returns-2
 unfolding returning
 returns-2 c = rw (ne-eqb _ _ (c .if1 .left))

@@ -1,61 +1,45 @@
+-- `sheet::note_return` meets its contract. Assumes nothing.
 use Rattle.sheet.specs.View.{returning}
 use borrow.Author.Needs.{needs}
 use Rattle.sheet.proofs.note_return.Statement.{statement}
 use Rattle.sheet.proofs.note_return.Tie as tie
-use Rattle.sheet.proofs.note_return.Reads as reads
-use Rattle.sheet.proofs.note_return.Lts as lts
-use Rattle.words.proofs.join.Reads as join-reads
-use Rattle.words.proofs.single.Reads as single-reads
 
--- src/lib.rt:316:13
 shared-slice-read-k : tie.Need-shared-slice-read-k
 shared-slice-read-k c = search needs
 
--- src/lib.rt:316:13
 cast-k : tie.Need-cast-k
 cast-k c = search needs
 
--- src/lib.rt:317:13
 shared-slice-read-v : tie.Need-shared-slice-read-v
 shared-slice-read-v c = search needs
 
--- src/lib.rt:317:13
 cast-v : tie.Need-cast-v
 cast-v c = search needs
 
--- src/lib.rt:318:14
 mul-at : tie.Need-mul-at
 mul-at c = search needs
 
--- src/lib.rt:318:14
 add-at : tie.Need-add-at
 add-at c = search needs
 
--- src/lib.rt:319:27
 mul-join : tie.Need-mul-join
 mul-join c = search needs
 
--- src/lib.rt:319:27
 element-copy-out-join : tie.Need-element-copy-out-join
 element-copy-out-join c = search needs
 
--- src/lib.rt:319:41
 single-requires : tie.Need-single-requires
 single-requires c κs = search needs
 
--- src/lib.rt:319:9
 join-requires : tie.Need-join-requires
 join-requires c κs = search needs
 
--- src/lib.rt:320:5
 mul-returned : tie.Need-mul-returned
 mul-returned c = search needs
 
--- src/lib.rt:320:5
 element-write-returned : tie.Need-element-write-returned
 element-write-returned c = search needs
 
--- src/lib.rt:312:1
 returns : tie.Need-returns
 unfolding returning
 returns c = rw (c .join .ensures, c .before .single .ensures)

@@ -1,3 +1,4 @@
+-- `sheet::owner_of` meets its contract. Assumes nothing.
 use mathlib.Core.Path.{sym}
 use native.Mathlib.Omega.{arith}
 use lib.ListN.{List·getD-eq-default}
@@ -5,25 +6,18 @@ use Rattle.sheet.proofs.Laws.{getD-inside}
 use borrow.Author.Needs.{needs}
 use Rattle.sheet.proofs.owner_of.Statement.{statement}
 use Rattle.sheet.proofs.owner_of.Tie as tie
-use Rattle.sheet.proofs.owner_of.Reads as reads
-use Rattle.sheet.proofs.owner_of.Lts as lts
-use Rattle.sheet.proofs.wide.Reads as wide-reads
 
--- src/lib.rt:40:9
 wide-requires : tie.Need-wide-requires
 wide-requires c κs = search needs
 
--- src/lib.rt:41:27
 shared-slice-read-result : tie.Need-shared-slice-read-result
 shared-slice-read-result c = search needs
 
--- src/lib.rt:37:1
 returns : tie.Need-returns
 returns c =
     let list = c .before .before .before .before .args .owners .now in
     rw (← c .before .before .wide .ensures .0) (getD-inside list (c .before .before .wide .result) 0 1 (omega arith))
 
--- src/lib.rt:37:1
 returns-2 : tie.Need-returns-2
 returns-2 c =
     let list = c .before .before .before .args .owners .now in

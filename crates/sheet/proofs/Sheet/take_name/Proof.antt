@@ -1,37 +1,29 @@
+-- `sheet::Sheet::take_name` meets its contract. Assumes nothing.
 use Rattle.sheet.proofs.Cases.{cases}
 use Rattle.format.specs.Records.{wholeRefusal, misnamed, twice, after}
 use borrow.Author.Needs.{needs}
 use Rattle.sheet.proofs.Sheet.take_name.Statement.{statement}
 use Rattle.sheet.proofs.Sheet.take_name.Tie as tie
-use Rattle.sheet.proofs.Sheet.take_name.Reads as reads
-use Rattle.sheet.proofs.Sheet.take_name.Lts as lts
 
--- src/lib.rt:147:17
 shared-slice-read-n : tie.Need-shared-slice-read-n
 shared-slice-read-n c = search needs
 
--- src/lib.rt:147:17
 cast-n : tie.Need-cast-n
 cast-n c = search needs
 
--- src/lib.rt:148:12
 element-copy-out-if1 : tie.Need-element-copy-out-if1
 element-copy-out-if1 c = search needs
 
--- src/lib.rt:149:13
 returns : tie.Need-returns
 unfolding wholeRefusal misnamed twice after
 returns c = search cases
 
--- src/lib.rt:154:25
 shared-slice-read-self : tie.Need-shared-slice-read-self
 shared-slice-read-self c = search needs
 
--- src/lib.rt:154:9
 element-write-self : tie.Need-element-write-self
 element-write-self c = search needs
 
--- src/lib.rt:142:5
 returns-2 : tie.Need-returns-2
 unfolding wholeRefusal misnamed twice after
 returns-2 c = search cases

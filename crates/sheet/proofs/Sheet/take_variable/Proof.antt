@@ -1,3 +1,4 @@
+-- `sheet::Sheet::take_variable` meets its contract. Assumes nothing.
 use mathlib.Core.Path.{refl, sym, _∙_}
 use Rattle.format.specs.Records.{after}
 use Rattle.sheet.specs.View.{sheetOf}
@@ -5,47 +6,34 @@ use Rattle.sheet.proofs.Laws.{refused-back, passed-back, variable-misna
 use borrow.Author.Needs.{needs}
 use Rattle.sheet.proofs.Sheet.take_variable.Statement.{statement}
 use Rattle.sheet.proofs.Sheet.take_variable.Tie as tie
-use Rattle.sheet.proofs.Sheet.take_variable.Reads as reads
-use Rattle.sheet.proofs.Sheet.take_variable.Lts as lts
-use Rattle.sheet.proofs.both.Reads as both-reads
-use Rattle.sheet.proofs.owner_of.Reads as owner-of-reads
 
--- src/lib.rt:189:17
 shared-slice-read-v : tie.Need-shared-slice-read-v
 shared-slice-read-v c = search needs
 
--- src/lib.rt:189:17
 cast-v : tie.Need-cast-v
 cast-v c = search needs
 
--- src/lib.rt:190:21
 shared-slice-read-owner : tie.Need-shared-slice-read-owner
 shared-slice-read-owner c = search needs
 
--- src/lib.rt:191:20
 shared-slice-read-name : tie.Need-shared-slice-read-name
 shared-slice-read-name c = search needs
 
--- src/lib.rt:192:12
 both-requires : tie.Need-both-requires
 both-requires c κs = search needs
 
--- src/lib.rt:193:13
 returns : tie.Need-returns
 returns c =
     let v = c .before .before .before .before .before .before .args in
     let e = variable-misnamed (sheetOf (v .t1)) (v .body .now) (sym (c .before .both .ensures) ∙ c .if1 .taken) in
     (sym e, refused-back (sheetOf (v .t1)) 5 (v .body .now) 5 refl e)
 
--- src/lib.rt:198:35
 shared-slice-read-owner-of : tie.Need-shared-slice-read-owner-of
 shared-slice-read-owner-of c = search needs
 
--- src/lib.rt:198:12
 owner-of-requires : tie.Need-owner-of-requires
 owner-of-requires c κs = search needs
 
--- src/lib.rt:199:13
 returns-2 : tie.Need-returns-2
 returns-2 c =
     let o = c .before .before .before .before .before .before in
@@ -53,15 +41,12 @@ returns-2 c =
     let e = variable-twice (sheetOf (v .t1)) (v .body .now) (sym (o .before .both .ensures) ∙ o .if1 .left) (λ z. c .if2 .taken (c .before .owner-of .ensures ∙ z)) in
     (sym e, refused-back (sheetOf (v .t1)) 5 (v .body .now) 6 refl e)
 
--- src/lib.rt:204:9
 element-write-self : tie.Need-element-write-self
 element-write-self c = search needs
 
--- src/lib.rt:205:9
 element-write-self-2 : tie.Need-element-write-self-2
 element-write-self-2 c = search needs
 
--- src/lib.rt:184:5
 returns-3 : tie.Need-returns-3
 unfolding after
 returns-3 c =

@@ -1,3 +1,4 @@
+-- `sheet::Sheet::with_formals` meets its contract. Assumes nothing.
 use borrow.Author.Needs.{needs}
 use mathlib.Core.Path.{_≡_, ap, _∙_}
 use Prim.Native.Nat.{_≤_, _-_, _*_}
@@ -7,8 +8,6 @@ use Rattle.sheet.specs.View.{sheetOf}
 use Rattle.sheet.proofs.Laws.{pasted, pasted-none, pasted-more}
 use Rattle.sheet.proofs.Sheet.with_formals.Statement.{statement}
 use Rattle.sheet.proofs.Sheet.with_formals.Tie as tie
-use Rattle.sheet.proofs.Sheet.with_formals.Reads as reads
-use Rattle.sheet.proofs.Sheet.with_formals.Lts as lts
 
 abbrev Inv-loop : tie.InvT-loop
 Inv-loop l seven self₀ at j₀ self j = (j ≤ 7) × (self ≡ pasted self₀ at seven j)
@@ -16,35 +15,27 @@ Inv-loop l seven self₀ at j₀ self j = (j ≤ 7) × (self ≡ pasted self₀ 
 abbrev μ-loop : tie.MeasureT-loop
 μ-loop l seven self₀ at j₀ self j = 7 - j
 
--- src/lib.rt:238:18
 mul-at : tie.Need-mul-at Inv-loop μ-loop
 mul-at c = search needs
 
--- src/lib.rt:239:9
 loop-holds : tie.Need-loop-holds Inv-loop μ-loop
 loop-holds c = (search needs, pasted-none (c .args .t1) (7 * c .args .l) (c .args .seven .now))
 
--- src/lib.rt:240:36
 shared-slice-read-self : tie.Need-shared-slice-read-self Inv-loop μ-loop
 shared-slice-read-self c = search needs
 
--- src/lib.rt:240:26
 add-self : tie.Need-add-self Inv-loop μ-loop
 add-self c = search needs
 
--- src/lib.rt:240:13
 element-write-self : tie.Need-element-write-self Inv-loop μ-loop
 element-write-self c = search needs
 
--- src/lib.rt:239:13
 add-j : tie.Need-add-j Inv-loop μ-loop
 add-j c = search needs
 
--- src/lib.rt:239:9
 loop-less : tie.Need-loop-less Inv-loop μ-loop
 loop-less c = search needs
 
--- src/lib.rt:239:9
 loop-again : tie.Need-loop-again Inv-loop μ-loop
 loop-again c =
     let a = c .before .before .before .args in
@@ -52,7 +43,6 @@ loop-again c =
     let long : length (a .t1 .formals) ≡ 448 = search (needs, c .before .before .before .good .0) in
     (search needs, rw (r .inv .1) (pasted-more (a .t1) (7 * a .l) (a .seven .now) (r .j) (search needs) (search needs)))
 
--- src/lib.rt:234:5
 returns : tie.Need-returns Inv-loop μ-loop
 returns c =
     let a = c .before .before .args in

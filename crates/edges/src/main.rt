@@ -1,0 +1,60 @@
+// A test of the reader: prints what reading gives for each file of `data/cases`, and for files of 32,767 to 32,769 bytes. The cases are the edges of
+// every field of every kind, cut records and functions left out; they and what this program must print come from the reader in tests/second,
+// which was written from document 01 alone (`cargo run --example edge_cases` there).
+use libc::STDOUT_FILENO;
+ghost use Prim.Native.Nat.{_<_};
+
+// What reading a file gives.
+fn show(file: &[u8]) {
+    let r = reader::read(file);
+    let no = r.refusal;
+    let position = r.position;
+    if no == 0 {
+        io::write_all(STDOUT_FILENO, b"read\n");
+        return;
+    }
+    io::write_all(STDOUT_FILENO, b"refused ");
+    io::print_decimal(STDOUT_FILENO, no as u64);
+    io::write_all(STDOUT_FILENO, b" ");
+    io::print_decimal(STDOUT_FILENO, position as u64);
+    io::write_all(STDOUT_FILENO, b"\n");
+}
+
+fn wide(b: u8) -> usize
+    ensures { λ r. ⌜ r < 256 ⌝ }
+{
+    b as usize
+}
+
+// Each case: two bytes of length, the low one first, then the file.
+fn show_all(cases: &[u8]) {
+    let mut at: usize = 0;
+    while at < cases.len() {
+        if cases.len() - at < 2 {
+            return;
+        }
+        let n = wide(cases[at]) + 256 * wide(cases[at + 1]);
+        if cases.len() - at - 2 < n {
+            return;
+        }
+        show(&cases[at + 2..at + 2 + n]);
+        at = at + 2 + n;
+    }
+}
+
+fn main() {
+    let name = b"cases";
+    let fd = os::open_read(name);
+    if fd < 0 {
+        os::fail(name);
+        return;
+    }
+    let mut cases = [0u8; 262144];
+    let n = io::read_full(fd, &mut cases);
+    libc::close(fd);
+    show_all(&cases[..n]);
+    let full = [3u8; 32769];
+    show(&full[..32767]);
+    show(&full[..32768]);
+    show(&full);
+}

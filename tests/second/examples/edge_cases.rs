@@ -1,0 +1,46 @@
+//! Writes the cases of the Rattle program `edges` and what it must print: good and bad values side by side for every field of every kind,
+//! every cut record, a function left out, and files at the size limit. Run from this package's folder.
+
+use second::generate::edges;
+use second::reader::read;
+use std::fs;
+
+/// The byte values on both sides of every border that document 01 draws.
+const BORDERS: [u8; 24] = [0, 1, 2, 3, 4, 5, 6, 7, 8, 9, 10, 11, 12, 13, 31, 32, 63, 64, 127, 128, 135, 136, 254, 255];
+
+fn line(file: &[u8]) -> String {
+    match read(file) {
+        Ok(_) => "read\n".to_string(),
+        Err(r) => format!("refused {} {}\n", r.number, r.position),
+    }
+}
+
+fn wanted(name: &str) -> bool {
+    let parts: Vec<&str> = name.split('-').collect();
+    match parts.as_slice() {
+        ["edge", "kind", kind] => kind.parse::<u8>().is_ok_and(|k| k < 30 || k == 255),
+        ["edge", _, "due"] | ["edge", _, "cut", _] => true,
+        ["edge", _, _, value] => value.parse::<u8>().is_ok_and(|v| BORDERS.contains(&v)),
+        _ => false,
+    }
+}
+
+fn main() -> std::io::Result<()> {
+    let (mut cases, mut lines) = (Vec::new(), String::new());
+    for (name, file) in edges() {
+        if wanted(&name) {
+            cases.extend_from_slice(&(file.len() as u16).to_le_bytes());
+            cases.extend_from_slice(&file);
+            lines += &line(&file);
+        }
+    }
+    cases.extend_from_slice(&[0, 0]);
+    lines += &line(&[]);
+    for length in [32_767, 32_768, 32_769] {
+        lines += &line(&vec![3; length]);
+    }
+    fs::write("../../crates/edges/data/cases", &cases)?;
+    fs::write("../../crates/edges/stdout", &lines)?;
+    println!("{} bytes, {} lines", cases.len(), lines.lines().count());
+    Ok(())
+}
