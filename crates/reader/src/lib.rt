@@ -53,7 +53,7 @@ fn read_records(file: &[u8]) -> Reading
             let bad = sheet::field_refusal(&sheet.types, &sheet.owners, row[j], body[j]);
             if bad != 0 {
                 refusal = bad;
-                break 'records at;
+                break 'records at; // the kind byte's position
             }
             j += 1;
         }
