@@ -19,7 +19,7 @@ use Rattle.format.proofs.Records.{Front, front}
 use Rattle.format.proofs.Reading.{read-end, read-refused, read-record}
 use Rattle.format.proofs.Later.{Sized, record-extends}
 use Rattle.format.proofs.Made.{start-sized}
-use Rattle.sheet.specs.View.{fieldRefusal}
+use Rattle.fields.specs.Judging.{fieldRefusal}
 
 -- ---- the fields of a record, from the j-th on
 

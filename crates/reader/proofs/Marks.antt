@@ -12,7 +12,8 @@ use Rattle.format.specs.Sheet.{Sheet, withForbidden, withReturned}
 use Rattle.format.specs.Fields.{good}
 use Rattle.format.specs.Records.{field, after, wholeRefusal}
 use Rattle.format.proofs.Tests.{or-false}
-use Rattle.sheet.specs.View.{judging, fieldRefusal, declares, handedBack, forbidding, returning}
+use Rattle.fields.specs.Judging.{judging, fieldRefusal}
+use Rattle.sheet.specs.View.{declares, handedBack, forbidding, returning}
 
 -- only types and owners judge a field
 good-judging : (s : Sheet) (c : Class) (b : ℕ) → good 64 (judging (s .types) (s .owners)) c b ≡ good 64 s c b

@@ -50,7 +50,7 @@ fn read_records(file: &[u8]) -> Reading
         let body = &file[at + 1..at + 1 + n];
         let mut j: usize = 0;
         'fields: while j < n {
-            let bad = sheet::field_refusal(&sheet.types, &sheet.owners, row[j], body[j]);
+            let bad = fields::field_refusal(&sheet.types, &sheet.owners, row[j], body[j]);
             if bad != 0 {
                 refusal = bad;
                 break 'records at; // the kind byte's position

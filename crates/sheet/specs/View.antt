@@ -1,14 +1,12 @@
 -- How the code's sheet stands for the sheet of the crate format. Assumes nothing.
-use mathlib.Core.List.{List, [], _∷_}
+use mathlib.Core.List.{List}
 use mathlib.Core.Bool.{Bool, cond, _||_}
 use Prim.Native.Nat.{ℕ, _+_, _*_, _/_, _%_, _^_}
 use lib.ListN.{getD, set}
 use lib.Seq.{paste}
 use lib.Dec.{eqb}
 use Rattle.words.specs.Words.{union}
-use Rattle.layout.specs.Layout.{Class}
 use Rattle.format.specs.Sheet as format
-use Rattle.format.specs.Fields.{good, refusalOf}
 use Rattle.format.specs.Records.{field, after, wholeRefusal}
 use Rattle.sheet.specs.declared.Sheet.{Sheet}
 
@@ -25,24 +23,6 @@ sheetOf s = record {
   returned = s .returned;
   forbidden = s .forbidden;
 }
-
--- a sheet of which only the label types and the variables' owners matter: they alone judge a field
-abbrev pub judging : List ℕ → List ℕ → format.Sheet
-judging types owners = record {
-  types = types;
-  flags = [];
-  defined = [];
-  formals = [];
-  masks = [];
-  owners = owners;
-  names = [];
-  returned = [];
-  forbidden = 0;
-}
-
--- what byte b is refused with in a field of class c, 0 where it is good
-unfoldable pub fieldRefusal : format.Sheet → Class → ℕ → ℕ
-fieldRefusal s c b = cond (good 64 s c b) 0 (refusalOf c)
 
 -- the next sheet, or the sheet as it was where the record is refused
 abbrev pub handedBack : format.Sheet → ℕ → List ℕ → format.Sheet

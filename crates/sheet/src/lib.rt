@@ -1,17 +1,16 @@
 // The declaration sheet of the small edition (64 labels), a struct of arrays that takes one record after the other (document 01, "Table and
-// sheet"), and the test of a field's byte against it. What may be declared once only (names, labels, functions, variables) makes a new sheet by
+// sheet"). What may be declared once only (names, labels, functions, variables) makes a new sheet by
 // value; forbids and returns, of which a file may have thousands, are marked in place.
 ghost use mathlib.Core.Path.{_≡_};
-ghost use mathlib.Core.Bool.{cond, not, _&&_, _||_};
+ghost use mathlib.Core.Bool.{cond, not};
 ghost use Prim.Native.Nat.{_<_};
 ghost use lib.ListN.{getD, length};
-ghost use lib.Dec.{leb, eqb};
-ghost use Rattle.layout.specs.Layout.{fieldsOf, classOf};
+ghost use Rattle.layout.specs.Layout.{fieldsOf};
 ghost use Rattle.format.specs.Sheet.{start};
-ghost use Rattle.format.specs.Fields.{good, refusalOf, Fits};
+ghost use Rattle.format.specs.Fields.{Fits};
 ghost use Rattle.format.specs.Records.{wholeRefusal};
 ghost use Rattle.format.specs.Reading.{lacking};
-ghost use Rattle.sheet.specs.View.{sheetOf, judging, fieldRefusal, handedBack, declares, withFormals, forbidding, returning};
+ghost use Rattle.sheet.specs.View.{sheetOf, handedBack, declares, withFormals, forbidding, returning};
 
 pub struct Sheet {
     // of each label: 0 not declared, 1 plain, 2 function, 3 array
@@ -71,101 +70,14 @@ pub fn fresh() -> Sheet
     }
 }
 
-fn wide(b: u8) -> usize
-    ensures { λ r. ⌜ (r ≡ b) × (r < 256) ⌝ }
-{
-    b as usize
-}
-
-// The type of label b, 0 where it is not declared.
-fn type_of(types: &[u8], b: u8) -> u8
-    ensures { λ r. ⌜ r ≡ getD (now (types .entry)) b 0 ⌝ }
-{
-    let l = wide(b);
-    if l < types.len() { types[l] } else { 0 }
-}
-
-// The owner of variable b
-fn owner_of(owners: &[u8], b: u8) -> u8
-    ensures { λ r. ⌜ r ≡ getD (now (owners .entry)) b 1 ⌝ }
-{
-    let v = wide(b);
-    if v < owners.len() { owners[v] } else { 1 }
-}
-
-// Both hold.
-fn both(x: bool, y: bool) -> bool
-    ensures { λ r. ⌜ r ≡ (x && y) ⌝ }
-{
-    if x { y } else { false }
-}
-
-// At least one holds.
-fn either(x: bool, y: bool) -> bool
-    ensures { λ r. ⌜ r ≡ (x || y) ⌝ }
-{
-    if x { true } else { y }
-}
-
-// The label is declared, from 5 up, and of type t.
-fn made(types: &[u8], b: u8, t: u8) -> bool
-    ensures { λ r. ⌜ r ≡ (leb 5 b && eqb (getD (now (types .entry)) b 0) t) ⌝ }
-{
-    both(5 <= b, type_of(types, b) == t)
-}
-
-pub fn is_good<'a>(types: &'a [u8], owners: &'a [u8], class: u8, b: u8) -> bool
-    ensures { λ r. ⌜ r ≡ good 64 (judging (now (types .entry)) (now (owners .entry))) (classOf class) b ⌝ }
-{
-    match class {
-        0 => b < 32,
-        1 => b % 2 == 1,
-        2 => both(5 <= b, b < 64),
-        3 => both(1 <= b, b <= 3),
-        4 => b <= 1,
-        5 => type_of(types, b) != 0,
-        6 => both(b != 3, type_of(types, b) != 0),
-        7 => made(types, b, 2),
-        8 => made(types, b, 1),
-        9 => both(
-            5 <= b,
-            either(type_of(types, b) == 1, type_of(types, b) == 3),
-        ),
-        10 => either(b == 0, made(types, b, 2)),
-        11 => both(2 <= b, b <= 255),
-        12 => either(b == 0, owner_of(owners, b) != 1),
-        13 => owner_of(owners, b) != 1,
-        14 => owner_of(owners, b) == 0,
-        15 => either(b == 255, b < 32),
-        _ => either(b < 32, both(128 <= b, b <= 135)),
-    }
-}
-
-// The number with which a bad byte in a field of each class is refused.
-const REFUSALS: [u8; 17] = [5, 5, 4, 5, 5, 4, 4, 4, 4, 4, 4, 3, 3, 3, 3, 5, 5];
-
-fn refusal_of(class: u8) -> u8
-    ensures { λ r. ⌜ r ≡ refusalOf (classOf class) ⌝ }
-{
-    let c = wide(class);
-    if c < 17 { REFUSALS[c] } else { 5 }
-}
-
-// The number with which byte b is refused in a field of the class, 0 where it is good.
-pub fn field_refusal<'a>(types: &'a [u8], owners: &'a [u8], class: u8, b: u8) -> u8
-    ensures { λ r. ⌜ r ≡ fieldRefusal (judging (now (types .entry)) (now (owners .entry))) (classOf class) b ⌝ }
-{
-    if is_good(types, owners, class, b) {
-        return 0;
-    }
-    refusal_of(class)
-}
-
 // The kinds of which nothing may stand twice.
 pub fn is_declaration(kind: u8) -> bool
     ensures { λ r. ⌜ r ≡ declares kind ⌝ }
 {
-    either(kind == 1, either(kind == 2, either(kind == 4, kind == 5)))
+    fields::either(
+        kind == 1,
+        fields::either(kind == 2, fields::either(kind == 4, kind == 5)),
+    )
 }
 
 impl Sheet {
@@ -219,13 +131,13 @@ impl Sheet {
         let v = body[0] as usize;
         let owner = body[1];
         let name = body[2];
-        if both(owner != 0, name != 255) {
+        if fields::both(owner != 0, name != 255) {
             return Taken {
                 sheet: self,
                 refusal: 5,
             };
         }
-        if owner_of(&self.owners, body[0]) != 1 {
+        if fields::owner_of(&self.owners, body[0]) != 1 {
             return Taken {
                 sheet: self,
                 refusal: 6,
@@ -340,7 +252,7 @@ pub fn is_complete<'a>(types: &'a [u8], defined: &'a [u8]) -> bool
 {
     let mut l: usize = 0;
     while l < types.len() {
-        if both(types[l] == 2, defined[l] == 0) {
+        if fields::both(types[l] == 2, defined[l] == 0) {
             return false;
         }
         l += 1;

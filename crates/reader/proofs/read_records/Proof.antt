@@ -12,7 +12,8 @@ use Rattle.format.specs.Fields.{Fits, firstBad}
 use Rattle.format.specs.Records.{after, wholeRefusal}
 use Rattle.sheet.proofs.Bodies.{forbid-body, return-body, undeclaring-passes}
 use Rattle.sheet.specs.declared.Sheet.{Sheet}
-use Rattle.sheet.specs.View.{sheetOf, fieldRefusal}
+use Rattle.fields.specs.Judging.{fieldRefusal}
+use Rattle.sheet.specs.View.{sheetOf}
 use Rattle.reader.proofs.Laws.{On, Here, next-within, part, on-start, at-end, unknown-kind, cut-short, part-length, here-bad-field, here-bad-record, here-next, here-fits, fields-on, fields-bad, fields-end}
 use Rattle.reader.proofs.Marks.{refusal-judging, marked, taken-back, declared-marks, undeclared-marks}
 use borrow.Author.Needs.{needs}

@@ -1,8 +1,8 @@
--- `sheet::field_refusal` meets its contract. Assumes nothing.
-use Rattle.sheet.specs.View.{fieldRefusal}
+-- `fields::field_refusal` meets its contract. Assumes nothing.
+use Rattle.fields.specs.Judging.{fieldRefusal}
 use borrow.Author.Needs.{needs}
-use Rattle.sheet.proofs.field_refusal.Statement.{statement}
-use Rattle.sheet.proofs.field_refusal.Tie as tie
+use Rattle.fields.proofs.field_refusal.Statement.{statement}
+use Rattle.fields.proofs.field_refusal.Tie as tie
 
 is-good-requires : tie.Need-is-good-requires
 is-good-requires c κs = search needs

@@ -1,11 +1,11 @@
--- `sheet::owner_of` meets its contract. Assumes nothing.
+-- `fields::owner_of` meets its contract. Assumes nothing.
 use mathlib.Core.Path.{sym}
 use native.Mathlib.Omega.{arith}
 use lib.ListN.{List·getD-eq-default}
-use Rattle.sheet.proofs.Laws.{getD-inside}
+use Rattle.fields.proofs.Laws.{getD-inside}
 use borrow.Author.Needs.{needs}
-use Rattle.sheet.proofs.owner_of.Statement.{statement}
-use Rattle.sheet.proofs.owner_of.Tie as tie
+use Rattle.fields.proofs.owner_of.Statement.{statement}
+use Rattle.fields.proofs.owner_of.Tie as tie
 
 wide-requires : tie.Need-wide-requires
 wide-requires c κs = search needs

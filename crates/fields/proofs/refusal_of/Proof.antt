@@ -1,14 +1,14 @@
--- `sheet::refusal_of` meets its contract. Assumes nothing.
+-- `fields::refusal_of` meets its contract. Assumes nothing.
 use mathlib.Core.Path.{_∙_}
 use mathlib.Core.List.{map}
 use lib.ListN.{List·getD-map}
 use Rattle.layout.specs.Layout.{key, classes}
 use Rattle.format.specs.Fields.{refusalOf}
 use Rattle.layout.proofs.Table.{class-rest}
-use Rattle.sheet.proofs.Laws.{getD-inside}
+use Rattle.fields.proofs.Laws.{getD-inside}
 use borrow.Author.Needs.{needs}
-use Rattle.sheet.proofs.refusal_of.Statement.{statement}
-use Rattle.sheet.proofs.refusal_of.Tie as tie
+use Rattle.fields.proofs.refusal_of.Statement.{statement}
+use Rattle.fields.proofs.refusal_of.Tie as tie
 
 wide-requires : tie.Need-wide-requires
 wide-requires c κs = search needs

@@ -1,12 +1,12 @@
--- `sheet::is_good` meets its contract. Assumes nothing.
+-- `fields::is_good` meets its contract. Assumes nothing.
 use Prim.Native.Nat.{_≤_}
 use native.Mathlib.Omega.{arith}
 use Rattle.layout.proofs.Table.{class-rest}
-use Rattle.sheet.proofs.Laws.{beyond}
+use Rattle.fields.proofs.Laws.{beyond}
 use Rattle.format.specs.Fields.{good}
 use borrow.Author.Needs.{needs}
-use Rattle.sheet.proofs.is_good.Statement.{statement}
-use Rattle.sheet.proofs.is_good.Tie as tie
+use Rattle.fields.proofs.is_good.Statement.{statement}
+use Rattle.fields.proofs.is_good.Tie as tie
 
 both-requires : tie.Need-both-requires
 both-requires c κs = search needs

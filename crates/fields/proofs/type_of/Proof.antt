@@ -1,10 +1,10 @@
--- `sheet::type_of` meets its contract. Assumes nothing.
+-- `fields::type_of` meets its contract. Assumes nothing.
 use mathlib.Core.Path.{sym}
 use native.Mathlib.Omega.{arith}
 use lib.ListN.{List·getD-eq-default}
 use borrow.Author.Needs.{needs}
-use Rattle.sheet.proofs.type_of.Statement.{statement}
-use Rattle.sheet.proofs.type_of.Tie as tie
+use Rattle.fields.proofs.type_of.Statement.{statement}
+use Rattle.fields.proofs.type_of.Tie as tie
 
 wide-requires : tie.Need-wide-requires
 wide-requires c κs = search needs

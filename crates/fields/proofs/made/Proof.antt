@@ -1,7 +1,7 @@
--- `sheet::made` meets its contract. Assumes nothing.
+-- `fields::made` meets its contract. Assumes nothing.
 use borrow.Author.Needs.{needs}
-use Rattle.sheet.proofs.made.Statement.{statement}
-use Rattle.sheet.proofs.made.Tie as tie
+use Rattle.fields.proofs.made.Statement.{statement}
+use Rattle.fields.proofs.made.Tie as tie
 
 type-of-requires : tie.Need-type-of-requires
 type-of-requires c κs = search needs

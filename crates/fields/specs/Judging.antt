@@ -1,0 +1,25 @@
+-- What judges a field's byte. Assumes nothing.
+use mathlib.Core.List.{List, []}
+use mathlib.Core.Bool.{cond}
+use Prim.Native.Nat.{ℕ}
+use Rattle.layout.specs.Layout.{Class}
+use Rattle.format.specs.Sheet.{Sheet}
+use Rattle.format.specs.Fields.{good, refusalOf}
+
+-- a sheet of which only the label types and the variables' owners matter: they alone judge a field
+abbrev pub judging : List ℕ → List ℕ → Sheet
+judging types owners = record {
+  types = types;
+  flags = [];
+  defined = [];
+  formals = [];
+  masks = [];
+  owners = owners;
+  names = [];
+  returned = [];
+  forbidden = 0;
+}
+
+-- what byte b is refused with in a field of class c, 0 where it is good
+unfoldable pub fieldRefusal : Sheet → Class → ℕ → ℕ
+fieldRefusal s c b = cond (good 64 s c b) 0 (refusalOf c)
