@@ -1,6 +1,7 @@
 -- The theory of rules as data: what another crate cites. Assumes nothing.
 pub mod Labels
 pub mod Table
+pub mod Count
 pub mod Told
 pub mod Join
 pub mod Round

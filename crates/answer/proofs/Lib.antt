@@ -1,0 +1,2 @@
+-- The word of an outcome. Assumes nothing.
+pub mod Word

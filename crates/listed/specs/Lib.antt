@@ -1,0 +1,5 @@
+-- Files as bytes, with the verdict and count that the definitions give them. Assumes nothing.
+pub mod Files
+pub mod Listed
+pub mod MoreFiles
+pub mod More

@@ -1,0 +1,76 @@
+-- What is judged of a program: confined or leaks, and the label of leaks is the lowest forbidden one that row 1 holds. Assumes nothing.
+use mathlib.Core.Path.{_≡_, subst}
+use mathlib.Core.Logic.{_⊎_, inl, inr}
+use Prim.Native.Nat.{ℕ, _^_, _<_, _≤_}
+use native.Mathlib.Decide.{decLt, ℕ-discrete}
+use native.Mathlib.Omega.{arith}
+use lib.Count.{trailingZeros}
+use borrow.Author.Tests.{eq-eqb, ne-eqb}
+use Rattle.words.proofs.Bits.{On, empty-off}
+use Rattle.words.proofs.Laws.{Lowest, lowest}
+use Rattle.answer.specs.Outcome.{confined, leaks}
+use Rattle.rules.specs.Table.{Table, Has, facts}
+use Rattle.format.specs.Sheet.{Sheet}
+use Rattle.program.specs.Program.{Program, Guest, guestsOf}
+use Rattle.analysis.specs.Verdict.{leastTable, heldForbidden}
+use Rattle.analysis.proofs.Held.{held-on, held-below}
+use Rattle.verdicts.specs.Verdict.{forbiddenHeld, judged, Leaks, Confined}
+
+-- ---- the two outcomes of a program
+
+module _ (L : ℕ) (p : Program) where
+  pub clear-confined : forbiddenHeld (leastTable L p) (p .guests) ≡ 0 → judged L p ≡ confined (facts L (leastTable L p))
+  unfolding judged
+  clear-confined e = rw (eq-eqb (forbiddenHeld (leastTable L p) (p .guests)) 0 e)
+
+  pub held-leaks : (forbiddenHeld (leastTable L p) (p .guests) ≡ 0 → ⊥)
+      → judged L p ≡ leaks (trailingZeros L (forbiddenHeld (leastTable L p) (p .guests))) (facts L (leastTable L p))
+  unfolding judged
+  held-leaks d = rw (ne-eqb (forbiddenHeld (leastTable L p) (p .guests)) 0 d)
+
+  pub confined-clear : Confined (judged L p) → forbiddenHeld (leastTable L p) (p .guests) ≡ 0
+  confined-clear c = go (ℕ-discrete (forbiddenHeld (leastTable L p) (p .guests)) 0)
+    where
+      go : Dec (forbiddenHeld (leastTable L p) (p .guests) ≡ 0) → forbiddenHeld (leastTable L p) (p .guests) ≡ 0
+      go (yes e) = e
+      go (no d) = let a = held-leaks d in let b = c .1 in let z : _≡_ {A = ℕ} 0 1 = cc in absurd (omega arith)
+
+  pub leaks-held : Leaks (judged L p) → forbiddenHeld (leastTable L p) (p .guests) ≡ 0 → ⊥
+  leaks-held k e = let a = clear-confined e in let b = k .2 in let z : _≡_ {A = ℕ} 0 1 = cc in omega arith
+
+  pub judged-cases : Confined (judged L p) ⊎ Leaks (judged L p)
+  judged-cases = go (ℕ-discrete (forbiddenHeld (leastTable L p) (p .guests)) 0)
+    where
+      go : Dec (forbiddenHeld (leastTable L p) (p .guests) ≡ 0) → Confined (judged L p) ⊎ Leaks (judged L p)
+      go (yes e) = inl (_, clear-confined e)
+      go (no d) = inr (_, _, held-leaks d)
+
+-- ---- the lowest forbidden label in row 1
+
+pub record LowestForbidden (s : Sheet) (t : Table) (l : ℕ) : Type 0 where
+  pub held : Has t 1 l
+  pub forbidden : On (s .forbidden) l
+  pub least : (m : ℕ) → Has t 1 m → On (s .forbidden) m → l ≤ m
+
+-- there is none, exactly where the word of forbidden labels held is 0
+pub none-forbidden : (s : Sheet) (t : Table) → forbiddenHeld t (guestsOf s) ≡ 0 → (l : ℕ) → Has t 1 l → On (s .forbidden) l → ⊥
+unfolding forbiddenHeld
+none-forbidden s t e l h f =
+    empty-off l (subst (λ (w : ℕ). On w l) e (held-on t (record { label = 3; bag = 1; key = 128; forbidden = s .forbidden }) l .1 (h, f)))
+
+pub lowest-forbidden : (L : ℕ) (s : Sheet) (t : Table) → s .forbidden < 2 ^ L → (forbiddenHeld t (guestsOf s) ≡ 0 → ⊥)
+    → LowestForbidden s t (trailingZeros L (forbiddenHeld t (guestsOf s)))
+unfolding forbiddenHeld
+lowest-forbidden L s t below d =
+    let g : Guest = record { label = 3; bag = 1; key = 128; forbidden = s .forbidden } in
+    let low = lowest L (heldForbidden t g) (held-below L t g below) (omega arith) in
+    let both = held-on t g (trailingZeros L (heldForbidden t g)) .0 (low .«in») in
+    record { held = both .0; forbidden = both .1; least = λ m h f. first g low m (held-on t g m .1 (h, f)) }
+  where
+    first : (g : Guest) → Lowest (heldForbidden t g) L (trailingZeros L (heldForbidden t g)) → (m : ℕ) → On (heldForbidden t g) m
+        → trailingZeros L (heldForbidden t g) ≤ m
+    first g low m o = go (decLt m (trailingZeros L (heldForbidden t g)))
+      where
+        go : Dec (m < trailingZeros L (heldForbidden t g)) → trailingZeros L (heldForbidden t g) ≤ m
+        go (yes h) = absurd (omega (arith, low .least m h))
+        go (no h) = omega arith

@@ -1,0 +1,90 @@
+-- Every outcome of verdict and check fits its word, in the small edition and in the large one, so that the word determines it. Assumes nothing.
+use mathlib.Core.Path.{_≡_, refl}
+use mathlib.Core.List.{List}
+use mathlib.Core.Bool.{Bool, true, false, cond}
+use Prim.Native.Nat.{ℕ, _*_, _^_, _<_, _≤_}
+use native.Mathlib.Nat.{mul-le-mul}
+use native.Mathlib.Decide.{decLt}
+use native.Mathlib.Omega.{arith}
+use lib.ListN.{length}
+use lib.Dec.{eqb, ltb}
+use lib.Count.{trailingZeros, trailing-le}
+use borrow.Author.Tests.{eqb-false, ltb-true, lt-ltb}
+use Rattle.rows.specs.Row.{rowCount}
+use Rattle.answer.specs.Outcome.{Outcome, confined, leaks, refused, accepted, packed, Ranged}
+use Rattle.answer.proofs.Word.{packed-injective}
+use Rattle.rules.specs.Table.{Table, facts}
+use Rattle.rules.specs.Gap.{gap}
+use Rattle.rules.proofs.Table.{facts-room}
+use Rattle.format.specs.Reading.{readFile, longest}
+use Rattle.format.proofs.File.{file-refusal-small, file-position-within}
+use Rattle.program.specs.Program.{Program}
+use Rattle.analysis.specs.Rules.{rules}
+use Rattle.analysis.specs.Verdict.{leastTable}
+use Rattle.verdicts.specs.Verdict.{admitted, forbiddenHeld, judged, programIn, verdictOutcome}
+use Rattle.verdicts.specs.Check.{cleaned, checked, checkOutcome}
+
+-- ---- how large the parts are
+
+position-small : (L : ℕ) (xs : List ℕ) → readFile L xs .position < 2 ^ 60
+unfolding readFile
+position-small L xs = go (decLt longest (length xs))
+  where
+    go : Dec (longest < length xs) → readFile L xs .position < 2 ^ 60
+    go (yes h) = rw (lt-ltb longest (length xs) h) (omega arith)
+    go (no h) = omega (arith, file-position-within L xs)
+
+count-small : (L : ℕ) (t : Table) → L ≤ 256 → facts L t < 2 ^ 22
+count-small L t h =
+    let rows : rowCount L ≤ 8960 = omega arith in
+    let room : L * rowCount L ≤ 256 * 8960 = mul-le-mul h rows in
+    omega (arith, facts-room L t)
+
+-- ---- the outcomes
+
+admitted-ranged : (L words : ℕ) (xs : List ℕ) (o : Outcome) → Ranged o → Ranged (admitted L words (readFile L xs) refused o)
+admitted-ranged L words xs o r = go (ltb words (rowCount L)) (eqb (readFile L xs .refusal) 0) refl
+  where
+    go : (x y : Bool) → eqb (readFile L xs .refusal) 0 ≡ y
+        → Ranged (cond x (refused 8 0) (cond y o (refused (readFile L xs .refusal) (readFile L xs .position))))
+    go true y e = (omega arith, omega arith, omega arith)
+    go false true e = r
+    go false false e = (above (eqb-false _ _ e), omega (arith, file-refusal-small L xs), position-small L xs)
+      where
+        above : {n : ℕ} → (n ≡ 0 → ⊥) → 1 ≤ n
+        above {n} d = omega arith
+
+module _ (L : ℕ) (small : L ≤ 256) where
+  judged-ranged : (p : Program) → Ranged (judged L p)
+  unfolding judged
+  judged-ranged p = go (eqb (forbiddenHeld (leastTable L p) (p .guests)) 0)
+    where
+      go : (b : Bool) → Ranged (cond b (confined (facts L (leastTable L p)))
+          (leaks (trailingZeros L (forbiddenHeld (leastTable L p) (p .guests))) (facts L (leastTable L p))))
+      go true = count-small L (leastTable L p) small
+      go false = (omega (arith, trailing-le L (forbiddenHeld (leastTable L p) (p .guests))), count-small L (leastTable L p) small)
+
+  pub verdict-ranged : (words : ℕ) (xs : List ℕ) → Ranged (verdictOutcome L words xs)
+  unfolding verdictOutcome
+  verdict-ranged words xs = admitted-ranged L words xs (judged L (programIn L xs)) (judged-ranged (programIn L xs))
+
+  checked-ranged : (p : Program) (t : Table) → Ranged (checked L p t)
+  unfolding checked
+  checked-ranged p t =
+      go (ltb (gap L (cleaned L (p .sheet) t) (rules L p)) (rowCount L)) refl (eqb (forbiddenHeld t (p .guests)) 0)
+    where
+      go : (x : Bool) → ltb (gap L (cleaned L (p .sheet) t) (rules L p)) (rowCount L) ≡ x → (y : Bool)
+          → Ranged (cond x (refused 10 (gap L (cleaned L (p .sheet) t) (rules L p)))
+          (cond y (accepted 0) (refused 11 (trailingZeros L (forbiddenHeld t (p .guests))))))
+      go true e y = (omega arith, omega arith, omega (arith, ltb-true (gap L (cleaned L (p .sheet) t) (rules L p)) (rowCount L) e))
+      go false e true = omega arith
+      go false e false = (omega arith, omega arith, omega (arith, trailing-le L (forbiddenHeld t (p .guests))))
+
+  pub check-ranged : (xs : List ℕ) (t : Table) → Ranged (checkOutcome L xs t)
+  unfolding checkOutcome
+  check-ranged xs t = admitted-ranged L (length t) xs (checked L (programIn L xs) t) (checked-ranged (programIn L xs) t)
+
+  -- equal words, equal outcomes
+  pub verdict-word : (words words' : ℕ) (xs ys : List ℕ) → packed (verdictOutcome L words xs) ≡ packed (verdictOutcome L words' ys)
+      → verdictOutcome L words xs ≡ verdictOutcome L words' ys
+  verdict-word words words' xs ys e = packed-injective _ _ (verdict-ranged words xs) (verdict-ranged words' ys) e

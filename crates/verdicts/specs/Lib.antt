@@ -1,0 +1,3 @@
+-- The outcomes of verdict and check. Assumes nothing.
+pub mod Verdict
+pub mod Check
