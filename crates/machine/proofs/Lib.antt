@@ -1,0 +1,2 @@
+-- What the machine must not do, shown on runs.
+pub mod Refrains

@@ -1,0 +1,9 @@
+-- The handset machine: its states, its lookups, its variables, its objects, its calls, its steps, its start, and how a run is written down.
+pub mod State
+pub mod Lookup
+pub mod Variable
+pub mod Property
+pub mod Call
+pub mod Step
+pub mod Start
+pub mod Run

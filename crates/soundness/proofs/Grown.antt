@@ -1,0 +1,244 @@
+-- A run never takes anything back, whatever the program and wherever it begins. Assumes nothing.
+use mathlib.Core.Path.{_≡_, refl, sym, _∙_, subst}
+use mathlib.Core.List.{List, [], _∷_, _++_, List·Memᴰ, Memᴰ·append-left}
+use mathlib.Core.Bool.{Bool, true, false, cond}
+use mathlib.Core.Option.{Option, none, some}
+use Prim.Native.Nat.{ℕ, _<_}
+use native.Mathlib.Omega.{arith}
+use native.Mathlib.Decide.{ℕ-discrete}
+use lib.ListN.{length, getD, set, replicate, length-set, length-append, List·getD-append}
+use lib.Seq.{getD-set-same, getD-set-other}
+use lib.Dec.{eqb}
+use Rattle.format.specs.Sheet.{builtIn}
+use Rattle.program.specs.Statement as say
+use Rattle.program.specs.Program.{Program, namesOf, isFunction, thisOf, formalsOf}
+use Rattle.machine.specs.State.{Value, primitive, object, Object, Caller, Frame, State, noObject, noFrame, objectAt, frameAt, orPrimitive, withObject, withFrame, setObject, setFrame, withBagged, withValue, withVariable, withThrown}
+use Rattle.machine.specs.Lookup.{nearestOf, findOf}
+use Rattle.machine.specs.Variable.{Place, nowhere, bag, named, local, placeOf, globalObject, read, readAll, writeIn, writePlace, write, writeAll}
+use Rattle.machine.specs.Property.{prototypeFor, fresh, next, loadFrom, storeTo}
+use Rattle.machine.specs.Call.{frameOf, callOf, newOf, primOf, returnTo, handTo}
+use Rattle.machine.specs.Step.{Choice, Move, act, hand, member, primNames, grantOf, thrownIn, isThrown, perform, statementAt, makesSense, step, run}
+use Rattle.soundness.specs.Grown.{SameObject, SameFrame, Grown}
+
+same-object : (o : Object) → SameObject o o
+same-object o = record { same-label = refl; same-prototype = refl; same-kept = refl }
+
+same-frame : (f : Frame) → SameFrame f f
+same-frame f = record { same-scope = refl; same-outward = refl; same-caller = refl; thrown-stays = λ x m. m }
+
+pub grown-refl : (s : State) → Grown s s
+grown-refl s =
+    record {
+      more-objects = omega arith;
+      same-objects = λ i h. same-object (objectAt s i);
+      more-frames = omega arith;
+      same-frames = λ f h. same-frame (frameAt s f);
+      bags-stay = λ b x m. m;
+    }
+
+pub grown-trans : {a b c : State} → Grown a b → Grown b c → Grown a c
+grown-trans g h =
+    record {
+      more-objects = omega arith;
+      same-objects = λ i l.
+          let o = g .same-objects i l in
+          let o' = h .same-objects i (omega (arith, g .more-objects)) in
+          record {
+            same-label = o' .same-label ∙ o .same-label;
+            same-prototype = o' .same-prototype ∙ o .same-prototype;
+            same-kept = o' .same-kept ∙ o .same-kept;
+          };
+      more-frames = omega arith;
+      same-frames = λ f l.
+          let e = g .same-frames f l in
+          let e' = h .same-frames f (omega (arith, g .more-frames)) in
+          record {
+            same-scope = e' .same-scope ∙ e .same-scope;
+            same-outward = e' .same-outward ∙ e .same-outward;
+            same-caller = e' .same-caller ∙ e .same-caller;
+            thrown-stays = λ x m. e' .thrown-stays x (e .thrown-stays x m);
+          };
+      bags-stay = λ b x m. h .bags-stay b x (g .bags-stay b x m);
+    }
+
+-- ---- each change
+
+-- another element at a place, related to the old one
+changed-at : {A : Type 0} (C : A → A → Type 0) → ((x : A) → C x x) → (xs : List A) (k : ℕ) (x d : A) → C (getD xs k d) x → (i : ℕ) → i < length xs
+    → C (getD xs i d) (getD (set xs k x) i d)
+changed-at C same xs k x d h i l = go (ℕ-discrete i k)
+  where
+    go : Dec (i ≡ k) → C (getD xs i d) (getD (set xs k x) i d)
+    go (no e) = subst (C (getD xs i d)) (sym (getD-set-other xs k i x d e)) (same (getD xs i d))
+    go (yes e) = let q : k < length xs = omega arith in rw (e, getD-set-same xs k x d q) h
+
+pub grown-object : (s : State) (o : Object) → Grown s (withObject s o)
+grown-object s o =
+    record {
+      more-objects = omega (arith, length-append (s .objects) (o ∷ []));
+      same-objects = λ i h. subst (SameObject (objectAt s i)) (sym (List·getD-append (s .objects) (o ∷ []) noObject i h)) (same-object (objectAt s i));
+      more-frames = omega arith;
+      same-frames = λ f h. same-frame (frameAt s f);
+      bags-stay = λ b x m. m;
+    }
+
+grown-frame : (s : State) (f : Frame) → Grown s (withFrame s f)
+grown-frame s f =
+    record {
+      more-objects = omega arith;
+      same-objects = λ i h. same-object (objectAt s i);
+      more-frames = omega (arith, length-append (s .frames) (f ∷ []));
+      same-frames = λ i h. subst (SameFrame (frameAt s i)) (sym (List·getD-append (s .frames) (f ∷ []) noFrame i h)) (same-frame (frameAt s i));
+      bags-stay = λ b x m. m;
+    }
+
+grown-value : (s : State) (i n j : ℕ) (x : Value) → Grown s (setObject s i (withValue (objectAt s i) n j x))
+grown-value s i n j x =
+    record {
+      more-objects = omega (arith, length-set (s .objects) i (withValue (objectAt s i) n j x));
+      same-objects =
+          changed-at SameObject same-object (s .objects) i (withValue (objectAt s i) n j x) noObject
+          (record { same-label = refl; same-prototype = refl; same-kept = refl });
+      more-frames = omega arith;
+      same-frames = λ f h. same-frame (frameAt s f);
+      bags-stay = λ b y m. m;
+    }
+
+grown-set-frame : (s : State) (i : ℕ) (f : Frame) → SameFrame (frameAt s i) f → Grown s (setFrame s i f)
+grown-set-frame s i f h =
+    record {
+      more-objects = omega arith;
+      same-objects = λ k l. same-object (objectAt s k);
+      more-frames = omega (arith, length-set (s .frames) i f);
+      same-frames = changed-at SameFrame same-frame (s .frames) i f noFrame h;
+      bags-stay = λ b y m. m;
+    }
+
+grown-thrown : (s : State) (i : ℕ) (x : Value) → Grown s (setFrame s i (withThrown (frameAt s i) x))
+grown-thrown s i x =
+    grown-set-frame s i (withThrown (frameAt s i) x)
+    (record { same-scope = refl; same-outward = refl; same-caller = refl; thrown-stays = λ y m. Memᴰ·append-left (x ∷ []) m })
+
+grown-bagged : (s : State) (b : ℕ) (x : Value) → Grown s (withBagged s b x)
+grown-bagged s b x =
+    record {
+      more-objects = omega arith;
+      same-objects = λ k l. same-object (objectAt s k);
+      more-frames = omega arith;
+      same-frames = λ f h. same-frame (frameAt s f);
+      bags-stay = λ c y m. go c (eqb c b) y m;
+    }
+  where
+    go : (c : ℕ) (a : Bool) (y : Value) → List·Memᴰ y (s .bags c) → List·Memᴰ y (cond a (s .bags c ++ (x ∷ [])) (s .bags c))
+    go c true y m = Memᴰ·append-left (x ∷ []) m
+    go c false y m = m
+
+grown-cond : (b : Bool) {s x y : State} → Grown s x → Grown s y → Grown s (cond b x y)
+grown-cond true h k = h
+grown-cond false h k = k
+
+-- ---- each part of a step
+
+module _ (p : Program) where
+  grown-write : (s : State) (f v : ℕ) (x : Value) → Grown s (write p s f v x)
+  grown-write s f v x = go (placeOf p v)
+    where
+      at : (g : Option ℕ) → Grown s (writeIn s g v x)
+      at none = grown-refl s
+      at (some g) =
+          grown-set-frame s g (withVariable (frameAt s g) v x)
+          (record { same-scope = refl; same-outward = refl; same-caller = refl; thrown-stays = λ y m. m })
+
+      go : (q : Place) → Grown s (writePlace q s f v x)
+      go nowhere = grown-refl s
+      go bag = grown-bagged s v x
+      go (named n) = grown-value s globalObject n 0 x
+      go (local k) = at (nearestOf s f k)
+
+  grown-write-all : (s : State) (f : ℕ) (vs : List ℕ) (xs : List Value) → Grown s (writeAll p s f vs xs)
+  grown-write-all s f [] xs = grown-refl s
+  grown-write-all s f (v ∷ vs) [] = grown-refl s
+  grown-write-all s f (v ∷ vs) (x ∷ xs) = grown-trans (grown-write s f v x) (grown-write-all (write p s f v x) f vs xs)
+
+  -- an object more, and a variable written
+  grown-made : (s : State) (o : Object) (f y : ℕ) (x : Value) → Grown s (write p (withObject s o) f y x)
+  grown-made s o f y x = grown-trans (grown-object s o) (grown-write (withObject s o) f y x)
+
+  grown-load : (s : State) (f y : ℕ) (x : Value) (u c n j : ℕ) → Grown s (loadFrom p s f y x u c n j)
+  grown-load s f y (object i) u c n j = grown-write s f y (orPrimitive (findOf s (object i) n j))
+  grown-load s f y primitive u c n j = grown-made s (fresh u (prototypeFor p u c) f) f y _
+
+  grown-store : (s : State) (x a : Value) (n j : ℕ) → Grown s (storeTo p s x a n j)
+  grown-store s primitive a n j = grown-refl s
+  grown-store s (object i) a n j = grown-cond (builtIn (p .sheet) (objectAt s i .label)) (grown-refl s) (grown-value s i n j a)
+
+  grown-call : (s : State) (f y : ℕ) (byNew : Bool) (x this : Value) (xs : List Value) → Grown s (callOf p s f y byNew x this xs)
+  grown-call s f y byNew primitive this xs = grown-refl s
+  grown-call s f y byNew (object i) this xs =
+      let o = objectAt s i in
+      let s' = withFrame s (frameOf o f y byNew) in
+      let v = thisOf (p .sheet) (o .label) in
+      grown-cond (isFunction (p .sheet) (o .label))
+      (grown-trans (grown-frame s (frameOf o f y byNew))
+      (grown-trans (grown-write s' (length (s .frames)) v this)
+      (grown-write-all (write p s' (length (s .frames)) v this) (length (s .frames)) (formalsOf (p .sheet) (o .label)) xs)))
+      (grown-refl s)
+
+  grown-new : (s : State) (f y u l j : ℕ) (x : Value) (xs : List Value) → Grown s (newOf p s f y u l x j xs)
+  grown-new s f y u l j primitive xs = grown-refl s
+  grown-new s f y u l j (object i) xs =
+      grown-cond (isFunction (p .sheet) (objectAt s i .label))
+      (grown-trans (grown-made s _ f u (next s)) (grown-trans (grown-write _ f y (next s)) (grown-call _ f y true (object i) (next s) xs)))
+      (grown-refl s)
+
+  grown-prim : (s : State) (f : ℕ) (x : Value) (n j : ℕ) → Grown s (primOf p s f x n j)
+  grown-prim s f primitive n j = grown-refl s
+  grown-prim s f (object i) n j = grown-call s f 0 false (orPrimitive (findOf s (object i) n j)) (object i) (replicate 6 primitive)
+
+  grown-return : (s : State) (c : Option Caller) (x : Value) → Grown s (returnTo p s c x)
+  grown-return s none x = grown-refl s
+  grown-return s (some c) primitive = grown-cond (c .byNew) (grown-refl s) (grown-write s (c .frame) (c .result) primitive)
+  grown-return s (some c) (object i) = grown-write s (c .frame) (c .result) (object i)
+
+  grown-hand : (s : State) (c : Option Caller) (x : Value) → Grown s (handTo s c x)
+  grown-hand s none x = grown-refl s
+  grown-hand s (some c) x = grown-thrown s (c .frame) x
+
+  grown-grant : (to : Bool) (s : State) (f v b i : ℕ) → Grown s (grantOf p to s f v b i)
+  grown-grant true s f v b i = grown-write s f b (read p s f v i)
+  grown-grant false s f v b i = grown-write s f v (read p s f b i)
+
+  -- ---- steps and runs
+
+  grown-perform : (c : Choice) (s : State) (f : ℕ) (a : say.Statement) → Grown s (perform p c s f a)
+  grown-perform c s f (say.named v n) = grown-refl s
+  grown-perform c s f (say.grant v b) = grown-grant (c .toGuest) s f v b (c .which 0)
+  grown-perform c s f (say.property l n m) = grown-refl s
+  grown-perform c s f (say.held v l) = grown-refl s
+  grown-perform c s f (say.copy k y x) = grown-write s f y (read p s f x (c .which 0))
+  grown-perform c s f (say.load k y x key u) =
+      grown-cond (member (c .name) (namesOf (p .sheet) key)) (grown-load s f y (read p s f x (c .which 0)) u (c .prototype) (c .name) (c .number))
+      (grown-refl s)
+  grown-perform c s f (say.store k x key a) =
+      grown-cond (member (c .name) (namesOf (p .sheet) key))
+      (grown-store s (read p s f x (c .which 0)) (read p s f a (c .which 1)) (c .name) (c .number)) (grown-refl s)
+  grown-perform c s f (say.make k y l) = grown-made s (fresh l (prototypeFor p l (c .prototype)) f) f y (next s)
+  grown-perform c s f (say.makeFunction k y l q) =
+      grown-trans (grown-object s (fresh q (prototypeFor p q (c .prototype')) f)) (grown-made (withObject s (fresh q (prototypeFor p q (c .prototype')) f)) _ f y _)
+  grown-perform c s f (say.call k y g u vs) =
+      grown-call s f y false (read p s f g (c .which 0)) (read p s f u (c .which 1)) (readAll p s f vs (c .which) 2)
+  grown-perform c s f (say.new k y g u l vs) = grown-new s f y u l (c .number) (read p s f g (c .which 0)) (readAll p s f vs (c .which) 2)
+  grown-perform c s f (say.return k x) = grown-return s (frameAt s f .caller) (read p s f x (c .which 0))
+  grown-perform c s f (say.throw k x) = grown-thrown s f (read p s f x (c .which 0))
+  grown-perform c s f (say.catch k y) =
+      grown-cond (isThrown s f (c .thrown)) (grown-write s f y (thrownIn s f (c .thrown))) (grown-refl s)
+  grown-perform c s f (say.prim k x) =
+      grown-cond (member (c .name) primNames) (grown-prim s f (read p s f x (c .which 0)) (c .name) (c .number)) (grown-refl s)
+
+  pub step-grown : (m : Move) (s : State) → Grown s (step p m s)
+  step-grown (act c) s = grown-cond (makesSense p c s) (grown-perform c s (c .frame) (statementAt p (c .statement) .1)) (grown-refl s)
+  step-grown (hand f i) s = grown-cond (isThrown s f i) (grown-hand s (frameAt s f .caller) (thrownIn s f i)) (grown-refl s)
+
+  pub run-grown : (moves : List Move) (s : State) → Grown s (run p moves s)
+  run-grown [] s = grown-refl s
+  run-grown (m ∷ moves) s = grown-trans (step-grown m s) (run-grown moves (step p m s))

@@ -1,0 +1,4 @@
+-- The runs of specs/, computed.
+pub mod Calls
+pub mod Throws
+pub mod Objects

@@ -1,0 +1,4 @@
+-- Files and runs that leak, each by one mechanism of the machine.
+pub mod Calls
+pub mod Throws
+pub mod Objects
