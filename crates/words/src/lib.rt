@@ -1,9 +1,10 @@
 // A word as a set of labels: bit l of the word says whether label l is in the set. These are the only functions that touch bits,
 // so that no contract above this crate speaks of shifts.
 ghost use mathlib.Core.Path.{_≡_};
-ghost use Prim.Native.Nat.{_^_, _<_};
+ghost use Prim.Native.Nat.{_^_, _<_, _≤_};
+ghost use lib.Bits.{bitAnd};
 ghost use lib.Count.{trailingZeros};
-ghost use Rattle.words.specs.Words.{bit, union, countBelow};
+ghost use Rattle.words.specs.Words.{bit, union, countBelow, Next};
 
 // The set that holds label l alone.
 pub fn single(l: usize) -> u64
@@ -18,6 +19,13 @@ pub fn join(x: u64, y: u64) -> u64
     ensures { λ r. ⌜ r ≡ union x y ⌝ }
 {
     x | y
+}
+
+// The labels of both sets.
+pub fn meet(x: u64, y: u64) -> u64
+    ensures { λ r. ⌜ r ≡ bitAnd x y ⌝ }
+{
+    x & y
 }
 
 // 1 where label l is in the set, else 0.
@@ -40,4 +48,25 @@ pub fn lowest(x: u64) -> u32
     ensures { λ r. ⌜ r ≡ trailingZeros 64 x ⌝ }
 {
     u64::trailing_zeros(x)
+}
+
+fn whole(n: u32) -> usize
+    ensures { λ r. ⌜ r ≡ n ⌝ }
+{
+    n as usize
+}
+
+// The lowest label in the set from label `from` up, 64 where there is none: what a loop over the labels goes by.
+pub fn next(x: u64, from: usize) -> usize
+    requires { ⌜ from ≤ 64 ⌝ }
+    ensures { λ r. ⌜ Next x from r ⌝ }
+{
+    if 64 <= from {
+        return 64;
+    }
+    let rest = x >> from;
+    if rest == 0 {
+        return 64;
+    }
+    from + whole(lowest(rest))
 }

@@ -1,0 +1,69 @@
+-- The verdict's outcome and table, case by case as the operation meets them. Assumes nothing.
+use mathlib.Core.Path.{_≡_, refl, sym, ap, _∙_}
+use mathlib.Core.List.{List, _++_}
+use Prim.Native.Nat.{ℕ, _≤_, _<_}
+use native.Mathlib.Omega.{arith}
+use lib.ListN.{length, getD, drop, List·getD-append}
+use lib.Bits.{bitAnd}
+use borrow.Author.Tests.{le-ltb, lt-ltb, eq-eqb, ne-eqb}
+use Rattle.rules.specs.Table.{Table, facts}
+use Rattle.rules.proofs.Beyond.{facts-append}
+use Rattle.format.specs.Reading.{readFile, Readable}
+use Rattle.program.specs.Program.{programOf, guestsOf}
+use Rattle.analysis.specs.Verdict.{leastTable, heldForbidden}
+use Rattle.analysis.proofs.Proper.{readable-proper}
+use Rattle.analysis.proofs.Least.{table-length}
+use Rattle.answer.specs.Outcome.{refused}
+use Rattle.verdicts.specs.Verdict.{verdictOutcome, verdictTable, judged, forbiddenHeld, programIn}
+use Rattle.verdicts.proofs.Demand.{verdict-judged, table-left}
+use Rattle.solver.specs.Desk.{guestOf}
+use Rattle.pezvoran.specs.Judgment.{judgment}
+
+module _ (xs : List ℕ) (t : Table) where
+  pub short-outcome : length t < 2432 → verdictOutcome 64 (length t) xs ≡ refused 8 0
+  unfolding verdictOutcome
+  short-outcome h = rw (lt-ltb _ _ h)
+
+  pub short-table : length t < 2432 → verdictTable 64 xs t ≡ t
+  unfolding verdictTable
+  short-table h = rw (lt-ltb _ _ h)
+
+  module _ (full : 2432 ≤ length t) where
+    pub refused-outcome : (readFile 64 xs .refusal ≡ 0 → ⊥) → verdictOutcome 64 (length t) xs ≡ refused (readFile 64 xs .refusal) (readFile 64 xs .position)
+    unfolding verdictOutcome
+    refused-outcome z = rw (le-ltb _ _ full, ne-eqb _ _ z)
+
+    pub refused-table : (readFile 64 xs .refusal ≡ 0 → ⊥) → verdictTable 64 xs t ≡ t
+    unfolding verdictTable
+    refused-table z = rw (le-ltb _ _ full, ne-eqb _ _ z)
+
+    module _ (ok : Readable 64 xs) where
+      five : 5 ≤ 64
+      five = omega arith
+
+      pub left : verdictTable 64 xs t ≡ leastTable 64 (programIn 64 xs) ++ drop 2432 t
+      left = table-left 64 xs five ok t full
+
+      long : length (leastTable 64 (programIn 64 xs)) ≡ 2432
+      long = table-length 64 (programIn 64 xs) (readable-proper 64 xs five ok)
+
+      judged-is : judged 64 (programIn 64 xs)
+          ≡ judgment (heldForbidden (leastTable 64 (programIn 64 xs)) (guestOf (readFile 64 xs .sheet .forbidden))) (facts 64 (leastTable 64 (programIn 64 xs)))
+      unfolding judged forbiddenHeld programOf
+      judged-is = refl
+
+      held-left : heldForbidden (leastTable 64 (programIn 64 xs) ++ drop 2432 t) (guestOf (readFile 64 xs .sheet .forbidden))
+          ≡ heldForbidden (leastTable 64 (programIn 64 xs)) (guestOf (readFile 64 xs .sheet .forbidden))
+      unfolding heldForbidden
+      held-left =
+          ap (λ (w : ℕ). bitAnd w (readFile 64 xs .sheet .forbidden))
+          (List·getD-append (leastTable 64 (programIn 64 xs)) (drop 2432 t) 0 1 (omega (arith, long)))
+
+      -- what is held and counted in the table that is left
+      pub judged-outcome : verdictOutcome 64 (length t) xs
+          ≡ judgment
+          (heldForbidden (leastTable 64 (programIn 64 xs) ++ drop 2432 t) (guestOf (readFile 64 xs .sheet .forbidden)))
+          (facts 64 (leastTable 64 (programIn 64 xs) ++ drop 2432 t))
+      judged-outcome =
+          rw (held-left, facts-append 64 (leastTable 64 (programIn 64 xs)) (drop 2432 t) (omega (arith, long)))
+          (verdict-judged 64 xs five ok (length t) full ∙ judged-is)
