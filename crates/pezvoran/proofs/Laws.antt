@@ -3,12 +3,15 @@ use mathlib.Core.Path.{_≡_, refl, sym, ap, _∙_}
 use mathlib.Core.List.{List, _++_}
 use Prim.Native.Nat.{ℕ, _≤_, _<_}
 use native.Mathlib.Omega.{arith}
+use native.Mathlib.Decide.{decLt}
 use lib.ListN.{length, getD, drop, List·getD-append}
 use lib.Bits.{bitAnd}
 use borrow.Author.Tests.{le-ltb, lt-ltb, eq-eqb, ne-eqb}
 use Rattle.rules.specs.Table.{Table, facts}
 use Rattle.rules.proofs.Beyond.{facts-append}
 use Rattle.format.specs.Reading.{readFile, Readable}
+use Rattle.format.proofs.File.{file-position-within}
+use Rattle.reader.proofs.Whole.{too-long}
 use Rattle.program.specs.Program.{programOf, guestsOf}
 use Rattle.analysis.specs.Verdict.{leastTable, heldForbidden}
 use Rattle.analysis.proofs.Proper.{readable-proper}
@@ -18,6 +21,12 @@ use Rattle.verdicts.specs.Verdict.{verdictOutcome, verdictTable, judged, forbid
 use Rattle.verdicts.proofs.Demand.{verdict-judged, table-left}
 use Rattle.solver.specs.Desk.{guestOf}
 use Rattle.pezvoran.specs.Judgment.{judgment}
+
+-- a position is at most the longest file
+pub position-small : (xs : List ℕ) → readFile 64 xs .position ≤ 32768
+position-small xs =
+    elim (decLt 32768 (length xs))
+    [ yes long ↦ rw (too-long xs long) (omega arith) | no short ↦ omega (arith, file-position-within 64 xs) ]
 
 module _ (xs : List ℕ) (t : Table) where
   pub short-outcome : length t < 2432 → verdictOutcome 64 (length t) xs ≡ refused 8 0

@@ -12,86 +12,67 @@ use Rattle.answer.proofs.pack.Tie as tie
 word : Answer → ℕ
 word a = packed (outcomeOf a)
 
--- src/lib.rt:22:26
 enum-known-a : tie.Need-enum-known-a
 enum-known-a c = search needs
 
--- src/lib.rt:22:37
 cast-result : tie.Need-cast-result
 cast-result c = search needs
 
--- src/lib.rt:22:36
 mul-result : tie.Need-mul-result
 mul-result c = search needs
 
--- src/lib.rt:23:23
 enum-known-a-2 : tie.Need-enum-known-a-2
 enum-known-a-2 c = search needs
 
--- src/lib.rt:23:46
 cast-result-2 : tie.Need-cast-result-2
 cast-result-2 c = search needs
 
--- src/lib.rt:23:45
 mul-result-2 : tie.Need-mul-result-2
 mul-result-2 c = search needs
 
--- src/lib.rt:23:40
 add-result : tie.Need-add-result
 add-result c = search needs
 
--- src/lib.rt:23:69
 cast-result-3 : tie.Need-cast-result-3
 cast-result-3 c = search needs
 
--- src/lib.rt:23:68
 mul-result-3 : tie.Need-mul-result-3
 mul-result-3 c = search needs
 
--- src/lib.rt:23:40
 add-result-2 : tie.Need-add-result-2
 add-result-2 c = search needs
 
--- src/lib.rt:24:25
 enum-known-a-3 : tie.Need-enum-known-a-3
 enum-known-a-3 c = search needs
 
--- src/lib.rt:24:47
 cast-result-4 : tie.Need-cast-result-4
 cast-result-4 c = search needs
 
--- src/lib.rt:24:64
 mul-result-4 : tie.Need-mul-result-4
 mul-result-4 c =
     let h : c .before .a3 .given .0 .1 .0 < 2 ^ 59 = subst Placed (c .before .a3 .given .1) (c .before .before .before .pre) in
     search needs
 
--- src/lib.rt:24:46
 add-result-3 : tie.Need-add-result-3
 add-result-3 c =
     let h : c .before .a3 .given .0 .1 .0 < 2 ^ 59 = subst Placed (c .before .a3 .given .1) (c .before .before .before .pre) in
     search needs
 
--- src/lib.rt:25:29
 enum-told : tie.Need-enum-told
 enum-told c = search needs
 
--- src/lib.rt:17:1
 returns : tie.Need-returns
 unfolding word
 returns c = sym (ap word (c .before .a .given .1))
 
--- src/lib.rt:17:1
 returns-2 : tie.Need-returns-2
 unfolding word
 returns-2 c = sym (ap word (c .before .a2 .given .1))
 
--- src/lib.rt:17:1
 returns-3 : tie.Need-returns-3
 unfolding word
 returns-3 c = sym (ap word (c .before .a3 .given .1))
 
--- src/lib.rt:17:1
 returns-4 : tie.Need-returns-4
 returns-4 c = search needs
 

@@ -1,3 +1,4 @@
+-- `words::next` meets its contract. Assumes nothing.
 use mathlib.Core.Path.{_∙_}
 use borrow.Author.Needs.{needs}
 use Rattle.words.proofs.Onward.{next-none, next-found}

@@ -1,0 +1,77 @@
+-- `pezvoran::judge` meets its contract. Assumes nothing.
+use mathlib.Core.Path.{_≡_, sym, ap, ap₂, _∙_}
+use Prim.Native.Nat.{ℕ}
+use native.Mathlib.Omega.{arith}
+use Rattle.rules.specs.Table.{Table, facts}
+use Rattle.format.specs.Sheet.{Sheet}
+use Rattle.format.specs.Reading.{readFile}
+use Rattle.analysis.specs.Verdict.{heldForbidden}
+use Rattle.answer.specs.Outcome.{refused}
+use Rattle.solver.specs.Desk.{guestOf}
+use Rattle.pezvoran.specs.Judgment.{judgment}
+use Rattle.pezvoran.proofs.Laws.{short-outcome, short-table, refused-outcome, refused-table, judged-outcome, left, position-small}
+use borrow.Author.Needs.{needs}
+use Rattle.pezvoran.proofs.judge.Statement.{statement}
+use Rattle.pezvoran.proofs.judge.Tie as tie
+
+returns : tie.Need-returns
+returns c =
+    let a = c .before .before .before .args in
+    (sym (short-outcome (a .file .now) (a .table .now) (c .if1 .taken)), (omega arith, sym (short-table (a .file .now) (a .table .now) (c .if1 .taken))))
+
+read-requires : tie.Need-read-requires
+read-requires c κs = search needs
+
+returns-2 : tie.Need-returns-2
+returns-2 c =
+    let a = c .before .before .before .before .before .args in
+    let xs = a .file .now in
+    let t = a .table .now in
+    let r = c .before .read .ensures in
+    let full = c .before .before .if1 .left in
+    let z : readFile 64 xs .refusal ≡ 0 → ⊥ = (λ q. c .if2 .taken (r .1 .0 ∙ q)) in
+    (ap₂ refused (r .1 .0) (r .1 .1) ∙ sym (refused-outcome xs t full z), (omega (arith, r .1 .1, position-small xs), sym (refused-table xs t full z)))
+
+solve-requires : tie.Need-solve-requires
+solve-requires c κs = search needs
+
+held-requires : tie.Need-held-requires
+held-requires c κs = search needs
+
+count-requires : tie.Need-count-requires
+count-requires c κs = search needs
+
+judged-requires : tie.Need-judged-requires
+judged-requires c κs = search needs
+
+same-length : tie.Need-same-length
+same-length c = search needs
+
+returns-3 : tie.Need-returns-3
+returns-3 c =
+    let s = c .before .before .before .before .before .before .before in
+    let e = s .before .before .before in
+    let a = e .before .before .before .before .before .args in
+    let xs = a .file .now in
+    let t = a .table .now in
+    let r = e .before .read .ensures in
+    let full = e .before .before .if1 .left in
+    let ok : readFile 64 xs .refusal ≡ 0 = sym (r .1 .0) ∙ e .if2 .left in
+    let after = s .solve .ensures in
+    let held = c .before .before .before .held .ensures ∙ ap₂ (λ (u : Table) (w : ℕ). heldForbidden u (guestOf w)) after (ap (λ (z : Sheet). z .forbidden) (r .0)) in
+    let count = c .before .count .ensures ∙ ap (facts 64) after in
+    (c .judged .ensures .0 ∙ ap₂ judgment held count ∙ sym (judged-outcome xs t full ok), (c .judged .ensures .1, after ∙ sym (left xs t full ok)))
+
+pub judge-spec : {M : Type 1} → statement M
+judge-spec =
+    tie.close
+    (tie.spec
+    returns
+    read-requires
+    returns-2
+    solve-requires
+    held-requires
+    count-requires
+    judged-requires
+    same-length
+    returns-3)

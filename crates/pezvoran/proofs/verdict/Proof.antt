@@ -1,0 +1,23 @@
+-- `pezvoran::verdict` meets its contract. Assumes nothing.
+use mathlib.Core.Path.{ap, _∙_}
+use Rattle.answer.specs.Outcome.{packed}
+use borrow.Author.Needs.{needs}
+use Rattle.pezvoran.proofs.verdict.Statement.{statement}
+use Rattle.pezvoran.proofs.verdict.Tie as tie
+
+judge-requires : tie.Need-judge-requires
+judge-requires c κs = search needs
+
+pack-requires : tie.Need-pack-requires
+pack-requires c κs = search needs
+
+same-length : tie.Need-same-length
+same-length c = search needs
+
+returns : tie.Need-returns
+returns c =
+    let j = c .before .before .before .judge .ensures in
+    (c .pack .ensures ∙ ap packed (j .0), j .1 .1)
+
+pub verdict-spec : {M : Type 1} → statement M
+verdict-spec = tie.close (tie.spec judge-requires pack-requires same-length returns)
