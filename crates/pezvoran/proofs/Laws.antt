@@ -6,9 +6,12 @@ use native.Mathlib.Omega.{arith}
 use native.Mathlib.Decide.{decLt}
 use lib.ListN.{length, getD, drop, List·getD-append}
 use lib.Bits.{bitAnd}
+use lib.Count.{trailingZeros}
 use borrow.Author.Tests.{le-ltb, lt-ltb, eq-eqb, ne-eqb}
 use Rattle.rules.specs.Table.{Table, facts}
+use Rattle.rules.specs.Gap.{gap}
 use Rattle.rules.proofs.Beyond.{facts-append}
+use Rattle.analysis.specs.Rules.{rules}
 use Rattle.format.specs.Reading.{readFile, Readable}
 use Rattle.format.proofs.File.{file-position-within}
 use Rattle.reader.proofs.Whole.{too-long}
@@ -16,8 +19,10 @@ use Rattle.program.specs.Program.{programOf, guestsOf}
 use Rattle.analysis.specs.Verdict.{leastTable, heldForbidden}
 use Rattle.analysis.proofs.Proper.{readable-proper}
 use Rattle.analysis.proofs.Least.{table-length}
-use Rattle.answer.specs.Outcome.{refused}
+use Rattle.answer.specs.Outcome.{refused, accepted}
 use Rattle.verdicts.specs.Verdict.{verdictOutcome, verdictTable, judged, forbiddenHeld, programIn}
+use Rattle.verdicts.specs.Check.{cleaned, checked, checkOutcome}
+use Rattle.verdicts.proofs.Accept.{admitted-readable}
 use Rattle.verdicts.proofs.Demand.{verdict-judged, table-left}
 use Rattle.solver.specs.Desk.{guestOf}
 use Rattle.pezvoran.specs.Judgment.{judgment}
@@ -76,3 +81,37 @@ module _ (xs : List ℕ) (t : Table) where
       judged-outcome =
           rw (held-left, facts-append 64 (leastTable 64 (programIn 64 xs)) (drop 2432 t) (omega (arith, long)))
           (verdict-judged 64 xs five ok (length t) full ∙ judged-is)
+
+-- ---- the check
+
+module _ (xs : List ℕ) (t : Table) where
+  pub check-short : length t < 2432 → checkOutcome 64 xs t ≡ refused 8 0
+  unfolding checkOutcome
+  check-short h = rw (lt-ltb _ _ h)
+
+  module _ (full : 2432 ≤ length t) where
+    pub check-refused : (readFile 64 xs .refusal ≡ 0 → ⊥) → checkOutcome 64 xs t ≡ refused (readFile 64 xs .refusal) (readFile 64 xs .position)
+    unfolding checkOutcome
+    check-refused z = rw (le-ltb _ _ full, ne-eqb _ _ z)
+
+    module _ (ok : Readable 64 xs) where
+      check-read : checkOutcome 64 xs t ≡ checked 64 (programIn 64 xs) t
+      unfolding checkOutcome
+      check-read = admitted-readable 64 (length t) (readFile 64 xs) refused (checked 64 (programIn 64 xs) t) full ok
+
+      abbrev pub lowestGap : ℕ
+      lowestGap = gap 64 (cleaned 64 (readFile 64 xs .sheet) t) (rules 64 (programOf (readFile 64 xs)))
+
+      pub check-gap : lowestGap < 2432 → checkOutcome 64 xs t ≡ refused 10 lowestGap
+      unfolding checked programOf
+      check-gap h = check-read ∙ rw (lt-ltb _ _ h)
+
+      module _ (none : 2432 ≤ lowestGap) where
+        pub check-clear : heldForbidden t (guestOf (readFile 64 xs .sheet .forbidden)) ≡ 0 → checkOutcome 64 xs t ≡ accepted 0
+        unfolding checked programOf forbiddenHeld
+        check-clear e = check-read ∙ rw (le-ltb _ _ none, eq-eqb _ _ e)
+
+        pub check-held : (heldForbidden t (guestOf (readFile 64 xs .sheet .forbidden)) ≡ 0 → ⊥)
+            → checkOutcome 64 xs t ≡ refused 11 (trailingZeros 64 (heldForbidden t (guestOf (readFile 64 xs .sheet .forbidden))))
+        unfolding checked programOf forbiddenHeld
+        check-held e = check-read ∙ rw (le-ltb _ _ none, ne-eqb _ _ e)

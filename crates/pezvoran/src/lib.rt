@@ -7,6 +7,7 @@ ghost use lib.Count.{trailingZeros};
 ghost use Rattle.answer.specs.Outcome.{packed};
 ghost use Rattle.answer.specs.Answer.{outcomeOf, Placed};
 ghost use Rattle.verdicts.specs.Verdict.{verdictOutcome, verdictTable};
+ghost use Rattle.verdicts.specs.Check.{checkOutcome};
 ghost use Rattle.pezvoran.specs.Judgment.{judgment};
 
 // The lowest label of a set, 64 where it is empty.
@@ -55,4 +56,38 @@ pub extern "C" fn verdict(file: &[u8], table: &mut [u64]) -> u64
     ensures { λ _. ⌜ now (table .exit) ≡ verdictTable 64 (now (file .entry)) (now (table .entry)) ⌝ }
 {
     answer::pack(judge(file, table))
+}
+
+// The check of a finished table, which is only read.
+pub fn examine(file: &[u8], table: &[u64]) -> Answer
+    ensures { λ r. ⌜ outcomeOf r ≡ checkOutcome 64 (now (file .entry)) (now (table .entry)) ⌝ }
+    ensures { λ r. ⌜ Placed r ⌝ }
+{
+    if table.len() < 2432 {
+        return Answer::Refused(8, 0);
+    }
+    let r = reader::read(file);
+    let no = r.refusal;
+    let at = r.position;
+    if no != 0 {
+        return Answer::Refused(no, at);
+    }
+    let sheet = r.sheet;
+    let gap = checker::lowest_gap(file, sheet, table);
+    if gap < 2432 {
+        return Answer::Refused(10, gap);
+    }
+    let held = solver::table::held(table, sheet.forbidden);
+    if held == 0 {
+        return Answer::Accepted;
+    }
+    Answer::Refused(11, fields::wide(lowest_label(held)))
+}
+
+// The check, for C.
+#[no_mangle]
+pub extern "C" fn check(file: &[u8], table: &[u64]) -> u64
+    ensures { λ r. ⌜ r ≡ packed (checkOutcome 64 (now (file .entry)) (now (table .entry))) ⌝ }
+{
+    answer::pack(examine(file, table))
 }

@@ -15,7 +15,7 @@ mod chain;
 mod function;
 mod gather;
 mod guest;
-mod names;
+pub mod names;
 mod pass;
 mod record;
 mod rule;

@@ -1,0 +1,74 @@
+-- The rule of a call. Assumes nothing.
+use borrow.Author.Needs.{needs}
+use lib.ListN.{getD}
+use Rattle.program.specs.Statement.{statementsOf}
+use mathlib.Core.List.{[]}
+use Rattle.solver.specs.Desk.{desk}
+use Rattle.checker.proofs.Parts.{call-at, rest-is}
+use Prim.Native.Nat.{_-_}
+use lib.ListN.{length, take, drop}
+use Rattle.checker.proofs.record.call_record.Statement.{statement}
+use Rattle.checker.proofs.record.call_record.Tie as tie
+
+shared-slice-read-wide : tie.Need-shared-slice-read-wide
+shared-slice-read-wide c = search needs
+
+wide-requires : tie.Need-wide-requires
+wide-requires c κs = search needs
+
+shared-slice-read-wide-2 : tie.Need-shared-slice-read-wide-2
+shared-slice-read-wide-2 c = search needs
+
+wide-requires-2 : tie.Need-wide-requires-2
+wide-requires-2 c κs = search needs
+
+shared-slice-read-wide-3 : tie.Need-shared-slice-read-wide-3
+shared-slice-read-wide-3 c = search needs
+
+wide-requires-3 : tie.Need-wide-requires-3
+wide-requires-3 c κs = search needs
+
+shared-slice-read-wide-4 : tie.Need-shared-slice-read-wide-4
+shared-slice-read-wide-4 c = search needs
+
+wide-requires-4 : tie.Need-wide-requires-4
+wide-requires-4 c κs = search needs
+
+sub-call : tie.Need-sub-call
+sub-call c = search needs
+
+part-call-start : tie.Need-part-call-start
+part-call-start c = search needs
+
+part-call-end : tie.Need-part-call-end
+part-call-end c = search needs
+
+call-requires : tie.Need-call-requires
+call-requires c κs = search needs
+
+returns : tie.Need-returns
+unfolding statementsOf
+returns c =
+    let a = c .before .before .before .before .before .before .before .before .before .before .before .before .args in
+    let b = a .body .now in
+    call-at (desk (a .types .now) [] (a .formals .now) [] (a .returned .now)) (c .before .before .before .before .before .before .before .before .wide .result) (c .before .before .before .before .before .before .wide2 .result) (c .before .before .before .before .wide3 .result) (c .before .before .wide4 .result)
+    (getD b 0 0) (getD b 1 0) (getD b 2 0) (getD b 3 0) (take (length b - 4) (drop 4 b)) (drop 4 b)
+    (c .before .before .before .before .before .before .before .before .wide .ensures .0) (c .before .before .before .before .before .before .wide2 .ensures .0) (c .before .before .before .before .wide3 .ensures .0) (c .before .before .wide4 .ensures .0) (rest-is b 4) (c .call .ensures)
+
+pub call-record-spec : {M : Type 1} → statement M
+call-record-spec =
+    tie.close
+    (tie.spec
+    shared-slice-read-wide
+    wide-requires
+    shared-slice-read-wide-2
+    wide-requires-2
+    shared-slice-read-wide-3
+    wide-requires-3
+    shared-slice-read-wide-4
+    wide-requires-4
+    sub-call
+    part-call-start
+    part-call-end
+    call-requires
+    returns)

@@ -1,0 +1,48 @@
+-- The rule of a store. Assumes nothing.
+use borrow.Author.Needs.{needs}
+use mathlib.Core.Path.{refl}
+use lib.ListN.{getD}
+use Rattle.program.specs.Statement.{statementsOf}
+use mathlib.Core.List.{[]}
+use Rattle.solver.specs.Desk.{desk}
+use Rattle.checker.proofs.Parts.{store-at}
+use Rattle.checker.proofs.record.store_record.Statement.{statement}
+use Rattle.checker.proofs.record.store_record.Tie as tie
+
+shared-slice-read-wide : tie.Need-shared-slice-read-wide
+shared-slice-read-wide c = search needs
+
+wide-requires : tie.Need-wide-requires
+wide-requires c κs = search needs
+
+shared-slice-read-wide-2 : tie.Need-shared-slice-read-wide-2
+shared-slice-read-wide-2 c = search needs
+
+wide-requires-2 : tie.Need-wide-requires-2
+wide-requires-2 c κs = search needs
+
+shared-slice-read-store : tie.Need-shared-slice-read-store
+shared-slice-read-store c = search needs
+
+store-requires : tie.Need-store-requires
+store-requires c κs = search needs
+
+returns : tie.Need-returns
+unfolding statementsOf
+returns c =
+    let a = c .before .before .before .before .before .before .before .before .args in
+    let b = a .body .now in
+    store-at (desk [] (a .flags .now) [] (a .masks .now) []) (c .before .before .before .before .wide .result) (getD b 2 0) (c .before .before .wide2 .result)
+    (getD b 1 0) (getD b 2 0) (getD b 3 0) (c .before .before .before .before .wide .ensures .0) refl (c .before .before .wide2 .ensures .0) (c .store .ensures)
+
+pub store-record-spec : {M : Type 1} → statement M
+store-record-spec =
+    tie.close
+    (tie.spec
+    shared-slice-read-wide
+    wide-requires
+    shared-slice-read-wide-2
+    wide-requires-2
+    shared-slice-read-store
+    store-requires
+    returns)

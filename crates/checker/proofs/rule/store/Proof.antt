@@ -1,0 +1,91 @@
+-- A store for each label of the object: the invariant is that those below l were looked at. Assumes nothing.
+use borrow.Author.Needs.{needs}
+use mathlib.Core.Path.{_≡_}
+use mathlib.Core.Bool.{not}
+use mathlib.Core.List.{[]}
+use Prim.Native.Nat.{_-_, _≤_, _<_}
+use native.Mathlib.Omega.{arith}
+use lib.ListN.{getD}
+use lib.Dec.{eqb}
+use Rattle.words.proofs.Bits.{On}
+use Rattle.rows.specs.Row.{variable, property}
+use Rattle.rules.specs.Rule.{include, over, when}
+use Rattle.rules.specs.Round.{labels}
+use Rattle.rules.specs.Gap.{Finds}
+use Rattle.rules.proofs.Find.{finds-each-end}
+use Rattle.program.specs.Program.{namesOf}
+use Rattle.solver.specs.Desk.{desk}
+use Rattle.checker.specs.Seen.{seen}
+use Rattle.checker.proofs.Seen.{seen-small}
+use Rattle.checker.proofs.Loops.{each-first, each-next}
+use Rattle.checker.proofs.Finds.{store-named}
+use Rattle.checker.proofs.rule.store.Statement.{statement}
+use Rattle.checker.proofs.rule.store.Tie as tie
+
+abbrev Inv-loop : tie.InvT-loop
+Inv-loop t d flags masks x key a low names w best₀ l₀ best l =
+    (l ≤ 64) × (l < 64 → On w l)
+    × Finds 64 (seen d t) (over (labels l w) (λ m. when (not (eqb (getD flags m 0) 1)) (over (labels 64 names) (λ n. include (property m n) (variable a))))) low best
+
+abbrev μ-loop : tie.MeasureT-loop
+μ-loop t d flags masks x key a low names w best₀ l₀ best l = 64 - l
+
+names-of-requires : tie.Need-names-of-requires Inv-loop μ-loop
+names-of-requires c κs = search needs
+
+row-at-requires : tie.Need-row-at-requires Inv-loop μ-loop
+row-at-requires c κs = search needs
+
+next-requires : tie.Need-next-requires Inv-loop μ-loop
+next-requires c κs = search needs
+
+loop-holds : tie.Need-loop-holds Inv-loop μ-loop
+loop-holds c = let n = c .next .ensures in (n .high, n .here, each-first _ _ n)
+
+element-copy-out-store-at : tie.Need-element-copy-out-store-at Inv-loop μ-loop
+element-copy-out-store-at c = search needs
+
+store-at-requires : tie.Need-store-at-requires Inv-loop μ-loop
+store-at-requires c κs = search needs
+
+add-next : tie.Need-add-next Inv-loop μ-loop
+add-next c = search needs
+
+next-requires-2 : tie.Need-next-requires-2 Inv-loop μ-loop
+next-requires-2 c κs = search needs
+
+loop-less : tie.Need-loop-less Inv-loop μ-loop
+loop-less c = search needs
+
+loop-again : tie.Need-loop-again Inv-loop μ-loop
+loop-again c =
+    let r = c .before .before .before .before .loop in
+    let n = c .next2 .ensures in
+    (n .high, n .here, each-next _ _ _ (r .inv .1 (c .before .before .before .loop-test .taken)) n (r .inv .2) (c .before .store-at .ensures))
+
+returns : tie.Need-returns Inv-loop μ-loop
+unfolding namesOf
+returns c =
+    let a = c .before .before .before .before .before .before .args in
+    let names = c .before .before .before .before .names-of in
+    let e : c .before .loop .l ≡ 64 = omega arith in
+    store-named (desk [] (a .flags .now) [] (a .masks .now) []) (a .x) (a .key) (a .a) (names .result) (names .ensures) (search needs)
+    (finds-each-end (variable (a .x)) (seen-small (a .d) (a .t .now) (c .before .before .before .before .before .before .fits .d .fits)) (rw (e, c .before .before .before .row-at .ensures) at (c .before .loop .inv .2)))
+
+pub store-spec : {M : Type 1} → statement M
+store-spec =
+    tie.close
+    (tie.spec
+    Inv-loop
+    μ-loop
+    names-of-requires
+    row-at-requires
+    next-requires
+    loop-holds
+    element-copy-out-store-at
+    store-at-requires
+    add-next
+    next-requires-2
+    loop-less
+    loop-again
+    returns)

@@ -1,0 +1,2 @@
+-- The table as the check reads it.
+pub mod Seen

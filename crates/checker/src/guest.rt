@@ -1,0 +1,39 @@
+// The guest's rules: scope 3 with its bag, variable 1, in every variable field.
+ghost use mathlib.Core.Path.{_≡_};
+ghost use Prim.Native.Nat.{_≤_};
+ghost use lib.ListN.{length};
+ghost use Rattle.rules.specs.Gap.{Finds};
+ghost use Rattle.solver.specs.Desk.{desk, guestRules};
+ghost use Rattle.checker.specs.Seen.{seen};
+use crate::function::call;
+use crate::function::make_new;
+use crate::row::look_give;
+use crate::row::look_include;
+use crate::rule::load;
+use crate::rule::store;
+
+// Make function, load, store, call, new, throw, catch with label 3 and key 128; what a return says is the calls' affair. Row 355 is H(3,3), row
+// 2371 T(3).
+pub fn look_guest<'a>(
+    t: &[u64],
+    d: u64,
+    types: &'a [u8; 64],
+    flags: &'a [u8; 64],
+    formals: &'a [u8; 448],
+    masks: &'a [u8; 32],
+    returned: &'a [u64; 256],
+    low: usize,
+) -> usize
+    requires { ⌜ (2432 ≤ length (now t)) × (length (now formals) ≡ 448) ⌝ }
+    ensures { λ r. ⌜ Finds 64 (seen d (now (t .entry))) (guestRules (desk (now (types .entry)) (now (flags .entry)) (now (formals .entry)) (now (masks .entry)) (now (returned .entry)))) low r ⌝ }
+{
+    let args = [1u8; 6];
+    let made = look_give(t, d, 1, 3, low);
+    let shaped = look_give(t, d, 355, 3, made);
+    let loaded = load(t, d, masks, 1, 1, 128, 3, shaped);
+    let stored = store(t, d, flags, masks, 1, 128, 1, loaded);
+    let called = call(t, d, types, formals, returned, 3, 1, 1, 1, &args, stored);
+    let new = make_new(t, d, types, formals, returned, 3, 1, 1, 1, 3, &args, called);
+    let thrown = look_include(t, d, 2371, 1, new);
+    look_include(t, d, 1, 2371, thrown)
+}

@@ -1,0 +1,60 @@
+// The rules of all records, in the order of the file.
+ghost use mathlib.Core.Path.{_≡_};
+ghost use Prim.Native.Nat.{_≤_};
+ghost use lib.ListN.{length};
+ghost use Rattle.layout.specs.Layout.{bodyLength};
+ghost use Rattle.rules.specs.Gap.{Finds};
+ghost use Rattle.format.specs.Reading.{Readable};
+ghost use Rattle.solver.specs.Desk.{desk, hostRules};
+ghost use Rattle.checker.specs.Seen.{seen};
+use crate::record::look_record;
+use solver::names::wide;
+
+// The length of the body of a record.
+fn length_of(kind: u8) -> usize
+    ensures { λ r. ⌜ r ≡ bodyLength kind ⌝ }
+{
+    let lengths = layout::lengths();
+    let k = wide(kind);
+    if 27 <= k {
+        return 0;
+    }
+    wide(lengths[k])
+}
+
+// Every record's rules, one record after the other.
+pub fn look_records<'a>(
+    file: &[u8],
+    t: &[u64],
+    d: u64,
+    types: &'a [u8; 64],
+    flags: &'a [u8; 64],
+    formals: &'a [u8; 448],
+    masks: &'a [u8; 32],
+    returned: &'a [u64; 256],
+    low: usize,
+) -> usize
+    requires { ⌜ (2432 ≤ length (now t)) × Readable 64 (now file) × (length (now formals) ≡ 448) ⌝ }
+    ensures { λ r. ⌜ Finds 64 (seen d (now (t .entry))) (hostRules (desk (now (types .entry)) (now (flags .entry)) (now (formals .entry)) (now (masks .entry)) (now (returned .entry))) (now (file .entry))) low r ⌝ }
+{
+    let mut best = low;
+    let mut at: usize = 0;
+    while at < file.len() {
+        let kind = file[at];
+        let n = length_of(kind);
+        best = look_record(
+            t,
+            d,
+            types,
+            flags,
+            formals,
+            masks,
+            returned,
+            kind,
+            &file[at + 1..at + 1 + n],
+            best,
+        );
+        at = at + 1 + n;
+    }
+    best
+}

@@ -1,0 +1,100 @@
+-- `pezvoran::examine` meets its contract. Assumes nothing.
+use mathlib.Core.Path.{_≡_, sym, ap, ap₂, _∙_}
+use native.Mathlib.Omega.{arith}
+use lib.Count.{trailingZeros}
+use Rattle.format.specs.Sheet.{Sheet}
+use Rattle.format.specs.Reading.{readFile}
+use Rattle.analysis.specs.Verdict.{heldForbidden}
+use Rattle.answer.specs.Outcome.{refused}
+use Rattle.solver.specs.Desk.{guestOf}
+use Rattle.pezvoran.proofs.Laws.{check-short, check-refused, check-gap, check-clear, check-held, position-small}
+use borrow.Author.Needs.{needs}
+use Rattle.pezvoran.proofs.examine.Statement.{statement}
+use Rattle.pezvoran.proofs.examine.Tie as tie
+
+returns : tie.Need-returns
+returns c =
+    let a = c .before .before .before .args in
+    (sym (check-short (a .file .now) (a .table .now) (c .if1 .taken)), omega arith)
+
+read-requires : tie.Need-read-requires
+read-requires c κs = search needs
+
+returns-2 : tie.Need-returns-2
+returns-2 c =
+    let a = c .before .before .before .before .before .args in
+    let xs = a .file .now in
+    let t = a .table .now in
+    let r = c .before .read .ensures in
+    let full = c .before .before .if1 .left in
+    let z : readFile 64 xs .refusal ≡ 0 → ⊥ = (λ q. c .if2 .taken (r .1 .0 ∙ q)) in
+    (ap₂ refused (r .1 .0) (r .1 .1) ∙ sym (check-refused xs t full z), omega (arith, r .1 .1, position-small xs))
+
+lowest-gap-requires : tie.Need-lowest-gap-requires
+lowest-gap-requires c κs = search needs
+
+returns-3 : tie.Need-returns-3
+returns-3 c =
+    let e = c .before .before .before in
+    let a = e .before .before .before .before .before .args in
+    let xs = a .file .now in
+    let t = a .table .now in
+    let r = e .before .read .ensures in
+    let full = e .before .before .if1 .left in
+    let ok : readFile 64 xs .refusal ≡ 0 = sym (r .1 .0) ∙ e .if2 .left in
+    let g = c .before .lowest-gap .ensures in
+    let low = c .if3 .taken in
+    (ap (refused 10) g ∙ sym (check-gap xs t full ok (omega (arith, g))), omega arith)
+
+held-requires : tie.Need-held-requires
+held-requires c κs = search needs
+
+returns-4 : tie.Need-returns-4
+returns-4 c =
+    let e = c .before .before .before .before .before in
+    let a = e .before .before .before .before .before .args in
+    let xs = a .file .now in
+    let t = a .table .now in
+    let r = e .before .read .ensures in
+    let full = e .before .before .if1 .left in
+    let ok : readFile 64 xs .refusal ≡ 0 = sym (r .1 .0) ∙ e .if2 .left in
+    let g = c .before .before .before .lowest-gap .ensures in
+    let high = c .before .before .if3 .left in
+    let held = c .before .held .ensures ∙ ap (λ (s : Sheet). heldForbidden t (guestOf (s .forbidden))) (r .0) in
+    (sym (check-clear xs t full ok (omega (arith, g)) (sym held ∙ c .if4 .taken)), tt)
+
+lowest-label-requires : tie.Need-lowest-label-requires
+lowest-label-requires c κs = search needs
+
+wide-requires : tie.Need-wide-requires
+wide-requires c κs = search needs
+
+returns-5 : tie.Need-returns-5
+returns-5 c =
+    let e = c .before .before .before .before .before .before .before in
+    let a = e .before .before .before .before .before .args in
+    let xs = a .file .now in
+    let t = a .table .now in
+    let r = e .before .read .ensures in
+    let full = e .before .before .if1 .left in
+    let ok : readFile 64 xs .refusal ≡ 0 = sym (r .1 .0) ∙ e .if2 .left in
+    let g = c .before .before .before .before .before .lowest-gap .ensures in
+    let high = c .before .before .before .before .if3 .left in
+    let held = c .before .before .before .held .ensures ∙ ap (λ (s : Sheet). heldForbidden t (guestOf (s .forbidden))) (r .0) in
+    let label = c .wide .ensures .0 ∙ c .before .lowest-label .ensures ∙ ap (trailingZeros 64) held in
+    (ap (refused 11) label ∙ sym (check-held xs t full ok (omega (arith, g)) (λ z. c .before .before .if4 .left (held ∙ z))), omega (arith, c .wide .ensures .1))
+
+pub examine-spec : {M : Type 1} → statement M
+examine-spec =
+    tie.close
+    (tie.spec
+    returns
+    read-requires
+    returns-2
+    lowest-gap-requires
+    returns-3
+    held-requires
+    returns-4
+    lowest-label-requires
+    wide-requires
+    returns-5)
