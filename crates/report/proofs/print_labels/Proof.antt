@@ -1,8 +1,8 @@
--- `verdict::print_labels` meets its contract. Assumes nothing.
+-- `report::print_labels` meets its contract. Assumes nothing.
 use Prim.Native.Nat.{_≤_, _-_}
 use borrow.Author.Needs.{needs}
-use Rattle.verdict.proofs.print_labels.Statement.{statement}
-use Rattle.verdict.proofs.print_labels.Tie as tie
+use Rattle.report.proofs.print_labels.Statement.{statement}
+use Rattle.report.proofs.print_labels.Tie as tie
 
 abbrev Inv-loop : tie.InvT-loop
 Inv-loop w l₀ l = l ≤ 64
