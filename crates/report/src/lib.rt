@@ -1,4 +1,4 @@
-// What the programs print of an answer (document 01, "Listed files").
+// What the programs print of an answer (document 01, "Listed files"). No contract can say what is written; the programs' `stdout` files hold it.
 use answer::Answer;
 use libc::STDOUT_FILENO;
 
