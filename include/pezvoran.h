@@ -1,0 +1,158 @@
+/* Pezvoran for C: the verdict on a statement file and the check of a finished table.
+   Link with libpezvoran.a, which `rt staticlib pezvoran` writes to target/staticlib. C99 or later, or C++. */
+#ifndef PEZVORAN_H
+#define PEZVORAN_H
+
+#include <stddef.h>
+#include <stdint.h>
+
+#ifdef __cplusplus
+extern "C" {
+#endif
+
+/* ---- the operations */
+
+/* Both take any bytes and any table, empty ones too: nothing has to be tested before a call. Lengths are in bytes and in words. A pointer may be
+   NULL where its length is 0. The answer is one word, to be read with the functions below. */
+
+/* The verdict: confined, leaks or refused. Unless it refuses, the first PEZVORAN_TABLE_WORDS words of the table become the finished table, whatever
+   stood there; words beyond stay as they are. A refusal leaves every word as it is. */
+uint64_t verdict(const uint8_t *file, size_t file_length, uint64_t *table, size_t table_length);
+
+/* The check of a finished table, whoever made it: accepted or refused. It only reads. An accepted table shows that the file is confined. */
+uint64_t check(const uint8_t *file, size_t file_length, const uint64_t *table, size_t table_length);
+
+/* ---- sizes */
+
+enum {
+    PEZVORAN_TABLE_WORDS = 2432, /* a full table, one 64-bit word a row */
+    PEZVORAN_FILE_BYTES = 32768, /* the longest statement file */
+    PEZVORAN_VARIABLES = 256,
+    PEZVORAN_LABELS = 64,
+    PEZVORAN_NAMES = 32,
+    PEZVORAN_GUEST_ROW = 1 /* what the guest may hold */
+};
+
+/* ---- an answer taken apart */
+
+typedef enum {
+    PEZVORAN_CONFINED = 0, /* has a count */
+    PEZVORAN_LEAKS = 1,    /* has a label and a count */
+    PEZVORAN_ACCEPTED = 2,
+    PEZVORAN_REFUSED = 3 /* has a number and a position */
+} pezvoran_outcome;
+
+/* The number of a refusal, 1 to 11; else 0. */
+static inline unsigned pezvoran_number(uint64_t answer)
+{
+    return (unsigned)(answer & 15);
+}
+
+static inline pezvoran_outcome pezvoran_outcome_of(uint64_t answer)
+{
+    return pezvoran_number(answer) != 0 ? PEZVORAN_REFUSED : (pezvoran_outcome)(answer >> 4 & 15);
+}
+
+/* The position of a refusal; else 0. pezvoran_position_means says of what. */
+static inline uint64_t pezvoran_position(uint64_t answer)
+{
+    return pezvoran_number(answer) != 0 ? answer >> 4 : 0;
+}
+
+/* The lowest forbidden label that the guest may hold, where the outcome is leaks; else 0. */
+static inline unsigned pezvoran_label(uint64_t answer)
+{
+    return pezvoran_number(answer) != 0 ? 0 : (unsigned)(answer >> 8 & 511);
+}
+
+/* The number of facts in the finished table, where the outcome is confined or leaks; else 0. */
+static inline uint32_t pezvoran_count(uint64_t answer)
+{
+    return pezvoran_number(answer) != 0 ? 0 : (uint32_t)(answer >> 32 & 0x3fffff);
+}
+
+/* ---- refusals */
+
+typedef enum {
+    PEZVORAN_UNKNOWN_KIND = 1,
+    PEZVORAN_RECORD_CUT_SHORT = 2,
+    PEZVORAN_BAD_VARIABLE = 3,
+    PEZVORAN_BAD_LABEL = 4,
+    PEZVORAN_BAD_VALUE = 5,
+    PEZVORAN_DECLARED_TWICE = 6,
+    PEZVORAN_FUNCTION_MISSING = 7,
+    PEZVORAN_TABLE_TOO_SHORT = 8,
+    PEZVORAN_FILE_TOO_LONG = 9,
+    PEZVORAN_TABLE_NOT_CLOSED = 10,
+    PEZVORAN_FORBIDDEN_HELD = 11
+} pezvoran_refusal;
+
+/* A line of plain words for a refusal's number. */
+static inline const char *pezvoran_refusal_text(unsigned number)
+{
+    switch (number) {
+    case PEZVORAN_UNKNOWN_KIND: return "the record's kind is unknown";
+    case PEZVORAN_RECORD_CUT_SHORT: return "the file ends inside the record";
+    case PEZVORAN_BAD_VARIABLE: return "a variable of the record is not declared or not allowed there";
+    case PEZVORAN_BAD_LABEL: return "a label or scope of the record is not declared or not allowed there";
+    case PEZVORAN_BAD_VALUE: return "a name, key, mask, type or flag of the record is out of range";
+    case PEZVORAN_DECLARED_TWICE: return "the record declares a name, label, variable or function a second time";
+    case PEZVORAN_FUNCTION_MISSING: return "a function label has no function record";
+    case PEZVORAN_TABLE_TOO_SHORT: return "the table has fewer than 2432 words";
+    case PEZVORAN_FILE_TOO_LONG: return "the file is longer than 32768 bytes";
+    case PEZVORAN_TABLE_NOT_CLOSED: return "the table lacks a fact that the rules give";
+    case PEZVORAN_FORBIDDEN_HELD: return "by the table the guest may hold a forbidden label";
+    default: return "no refusal has this number";
+    }
+}
+
+/* What a refusal's position counts, in a word or two; empty for the two refusals that have none (8 and 9). */
+static inline const char *pezvoran_position_means(unsigned number)
+{
+    switch (number) {
+    case PEZVORAN_TABLE_TOO_SHORT:
+    case PEZVORAN_FILE_TOO_LONG: return "";
+    case PEZVORAN_FUNCTION_MISSING: return "file length";
+    case PEZVORAN_TABLE_NOT_CLOSED: return "row";
+    case PEZVORAN_FORBIDDEN_HELD: return "label";
+    default: return "record at byte";
+    }
+}
+
+/* ---- the rows of a table; bit l of a row stands for label l */
+
+/* What a variable may hold. */
+static inline size_t pezvoran_variable_row(uint8_t variable)
+{
+    return variable;
+}
+
+/* What a property of a label's objects may hold; label below 64, name below 32. */
+static inline size_t pezvoran_property_row(uint8_t label, uint8_t name)
+{
+    return 256 + 32 * (size_t)label + name;
+}
+
+/* What may stand on the prototype chain of a label's objects; label below 64. */
+static inline size_t pezvoran_chain_row(uint8_t label)
+{
+    return 2304 + (size_t)label;
+}
+
+/* What may be thrown in a scope; scope below 64. */
+static inline size_t pezvoran_thrown_row(uint8_t scope)
+{
+    return 2368 + (size_t)scope;
+}
+
+/* Whether a row holds a label; label below 64. */
+static inline int pezvoran_holds(uint64_t row, uint8_t label)
+{
+    return (int)(row >> label & 1);
+}
+
+#ifdef __cplusplus
+}
+#endif
+
+#endif
