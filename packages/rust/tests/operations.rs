@@ -1,0 +1,99 @@
+//! The safe interface: both operations on small files, words of answers, kept tables, and the texts of the C header.
+
+use pezvoran::{check, verdict, Answer, Refusal, Table, FILE_BYTES, TABLE_WORDS};
+
+/// Label 5, forbidden; variable 2 holds it; the last record grants variable 2.
+const LEAKING: [u8; 15] = [2, 5, 1, 0, 3, 5, 5, 2, 0, 255, 8, 2, 5, 6, 2];
+const CONFINED: [u8; 13] = [2, 5, 1, 0, 3, 5, 5, 2, 0, 255, 8, 2, 5];
+
+fn refused(number: u8, position: u64) -> Answer {
+    Answer::Refused(Refusal { number, position })
+}
+
+#[test]
+fn the_check_accepts_what_a_confined_verdict_left() {
+    let mut table = Table::new();
+    assert_eq!(verdict(&CONFINED, &mut table), Answer::Confined { facts: 48 });
+    assert_eq!(check(&CONFINED, &table), Answer::Accepted);
+    table[1] = 0;
+    assert_eq!(check(&CONFINED, &table), refused(10, 1));
+}
+
+#[test]
+fn the_check_refuses_what_a_leaking_verdict_left() {
+    let mut table = Table::new();
+    assert_eq!(verdict(&LEAKING, &mut table), Answer::Leaks { label: 5, facts: 148 });
+    assert_eq!(check(&LEAKING, &table), refused(11, 5));
+}
+
+#[test]
+fn empty_slices_are_answered() {
+    assert_eq!(verdict(&[], &mut []), refused(8, 0));
+    assert_eq!(check(&[], &[]), refused(8, 0));
+    assert_eq!(verdict(&[], &mut Table::new()), Answer::Confined { facts: 45 });
+}
+
+#[test]
+fn a_refusal_leaves_every_word() {
+    for (file, answer) in [(vec![3, 3, 9], refused(1, 2)), (vec![0; FILE_BYTES + 1], refused(9, 0))] {
+        let mut table = vec![7; TABLE_WORDS + 1];
+        assert_eq!(verdict(&file, &mut table), answer);
+        assert!(table.iter().all(|&word| word == 7));
+    }
+}
+
+#[test]
+fn words_beyond_the_table_stay() {
+    let mut table = vec![7; TABLE_WORDS + 2];
+    verdict(&LEAKING, &mut table);
+    assert_eq!(table[TABLE_WORDS..], [7, 7]);
+}
+
+#[test]
+fn rows_are_found_by_what_they_stand_for() {
+    let mut table = Table::new();
+    verdict(&LEAKING, &mut table);
+    assert!(table.guest().eq([3, 5]) && table.variable(2).eq([3, 5]));
+    assert!(table.property(5, 31).eq([3, 5]) && table.property(0, 0).eq([]));
+    assert!(table.chain(5).eq([1, 5]) && table.thrown(3).eq([3, 5]));
+}
+
+#[test]
+fn a_table_kept_as_bytes_is_the_same_table() {
+    let mut table = Table::new();
+    verdict(&LEAKING, &mut table);
+    let bytes = table.to_bytes();
+    assert_eq!(Table::from_bytes(&bytes), Some(table));
+    assert_eq!(Table::from_bytes(&bytes[1..]), None);
+    assert_eq!(Table::from_bytes(&[&bytes[..], &[0]].concat()), None);
+}
+
+#[test]
+fn a_word_is_read_as_the_answer_that_it_stands_for() {
+    let answers =
+        [Answer::Confined { facts: 45 }, Answer::Leaks { label: 63, facts: 100_000 }, Answer::Accepted, refused(1, 0), refused(11, (1 << 60) - 1)];
+    for answer in answers {
+        assert_eq!(Answer::of_word(answer.word()), Some(answer));
+    }
+    for no_answer in [12, 15, 1 << 8, 3 << 4, 16 | 1 << 17, 32 | 1 << 8, 32 | 1 << 40] {
+        assert_eq!(Answer::of_word(no_answer), None, "{no_answer:#x}");
+    }
+}
+
+#[test]
+fn answers_and_refusals_are_printed_in_words() {
+    assert_eq!(Answer::Leaks { label: 5, facts: 148 }.to_string(), "leaks 5 148");
+    assert_eq!(refused(4, 12).to_string(), "refused 4 12");
+    let refusal = Refusal { number: 4, position: 12 };
+    assert_eq!(refusal.to_string(), "a label or scope of the record is not declared or not allowed there (record at byte 12)");
+    assert_eq!(Refusal { number: 9, position: 0 }.to_string(), "the file is longer than 32768 bytes");
+}
+
+#[test]
+fn the_texts_are_those_of_the_c_header() {
+    let header = include_str!("../../../include/pezvoran.h");
+    for number in 0..16 {
+        let text = Refusal { number, position: 0 }.text();
+        assert!(header.contains(&format!("return \"{text}\";")), "{text}");
+    }
+}
