@@ -1,12 +1,12 @@
 //! The check's answer and position on finished tables, on tables with one bit changed, with stray bits, random, short and long, against the second check.
 
-use compare::{check, verdict, Answer, TABLE_WORDS};
+use pezvoran::{check, verdict, Answer, Refusal, TABLE_WORDS};
 use second::generate;
 
 fn expected(file: &[u8], table: &[u64]) -> Answer {
     match second::check::check(file, table) {
         Ok(()) => Answer::Accepted,
-        Err(r) => Answer::Refused { number: r.number as u64, position: r.position as u64 },
+        Err(r) => Answer::Refused(Refusal { number: r.number, position: r.position as u64 }),
     }
 }
 
@@ -15,7 +15,7 @@ fn same(name: &str, file: &[u8], table: &[u64], seen: &mut [usize; 16]) {
     assert_eq!(answer, expected(file, table), "{name}");
     match answer {
         Answer::Accepted => seen[0] += 1,
-        Answer::Refused { number, .. } => seen[number as usize] += 1,
+        Answer::Refused(refusal) => seen[refusal.number as usize] += 1,
         other => panic!("{name}: {other:?}"),
     }
 }

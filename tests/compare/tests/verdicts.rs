@@ -1,6 +1,6 @@
 //! Verdict, label, count and every word of the table, on listed, random, structured, many-round, dense and damaged files, against the second solver.
 
-use compare::{verdict, Answer, TABLE_WORDS};
+use pezvoran::{verdict, Answer, Refusal, TABLE_WORDS};
 use second::generate;
 use second::solver::{self, Verdict};
 
@@ -25,17 +25,17 @@ impl Tally {
             Ok(a) => match a.verdict {
                 Verdict::Confined => {
                     self.confined += 1;
-                    Answer::Confined { count: a.facts as u64 }
+                    Answer::Confined { facts: a.facts }
                 }
                 Verdict::Leaks(label) => {
                     self.leaks += 1;
-                    Answer::Leaks { label: label as u64, count: a.facts as u64 }
+                    Answer::Leaks { label, facts: a.facts }
                 }
             },
             Err(r) => {
                 self.refused[r.number as usize] += 1;
                 assert!(theirs == before, "{name}: the second solver wrote at a refusal");
-                Answer::Refused { number: r.number as u64, position: r.position as u64 }
+                Answer::Refused(Refusal { number: r.number, position: r.position as u64 })
             }
         };
         assert_eq!(answer, expected, "{name}");

@@ -1,7 +1,7 @@
 //! Random walks over the second, independent model of the machine: every value met lies within the table that `verdict` left, and a confined file
 //! never puts a forbidden label in the bag.
 
-use compare::{verdict, Answer, TABLE_WORDS};
+use pezvoran::{verdict, Answer, TABLE_WORDS};
 use second::generate;
 use second::machine::walk;
 use second::reader::read;
@@ -11,7 +11,7 @@ fn walks(what: &str, files: u64, steps: usize, make: fn(u64) -> generate::Named)
     for seed in 0..files {
         let (name, file) = make(seed);
         let mut table = vec![0; TABLE_WORDS];
-        if let Answer::Refused { .. } = verdict(&file, &mut table) {
+        if let Answer::Refused(_) = verdict(&file, &mut table) {
             continue;
         }
         let program = read(&file).expect("the verdict read it");
