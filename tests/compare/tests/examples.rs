@@ -1,0 +1,117 @@
+//! Every file in `examples` prints what its head states, by the archive and by the second implementation; its bytes are made by `examples/bytes`.
+
+use pezvoran::{check, verdict, Answer, Refusal, Table};
+use second::machine::witnessed;
+use second::reader::read;
+use second::report::report;
+use std::path::{Path, PathBuf};
+use std::process::Command;
+
+struct Example {
+    name: String,
+    text: String,
+    file: Vec<u8>,
+}
+
+fn folder() -> PathBuf {
+    Path::new(env!("CARGO_MANIFEST_DIR")).join("../../examples")
+}
+
+fn made_bytes(path: &Path) -> std::process::Output {
+    Command::new(folder().join("bytes")).arg(path).output().expect("examples/bytes runs")
+}
+
+fn examples() -> Vec<Example> {
+    let entries = std::fs::read_dir(folder()).expect("examples is there").map(|entry| entry.expect("an entry").path());
+    let texts = entries.filter(|path| path.extension().is_some_and(|ending| ending == "txt"));
+    let examples = texts.map(|path| {
+        let made = made_bytes(&path);
+        assert!(made.status.success(), "{path:?}");
+        let name = path.file_stem().expect("a name").to_string_lossy().into_owned();
+        Example { name, text: std::fs::read_to_string(&path).expect("a text"), file: made.stdout }
+    });
+    examples.collect()
+}
+
+/// What the head states, as the program `verdict` would print it.
+fn stated(example: &Example) -> String {
+    let lines = example.text.lines().filter_map(|line| line.strip_prefix("# prints: "));
+    lines.map(|line| format!("{line}\n")).collect()
+}
+
+#[test]
+fn the_archive_prints_what_each_example_states() {
+    for example in examples() {
+        let mut table = Table::new();
+        let answer = verdict(&example.file, &mut table);
+        let guest: String = table.guest().map(|label| format!(" {label}")).collect();
+        assert_eq!(format!("{answer}\nguest{guest}\n"), stated(&example), "{}", example.name);
+        let expected = match answer {
+            Answer::Leaks { label, .. } => Answer::Refused(Refusal { number: 11, position: label.into() }),
+            _ => Answer::Accepted,
+        };
+        assert_eq!(check(&example.file, &table), expected, "{}", example.name);
+    }
+}
+
+#[test]
+fn the_second_implementation_prints_what_each_example_states() {
+    for example in examples() {
+        assert_eq!(report(&example.file), stated(&example), "{}", example.name);
+    }
+}
+
+#[test]
+fn each_line_is_one_record() {
+    for example in examples() {
+        let mut before = 0;
+        for line in example.text.lines() {
+            let bytes: Vec<&str> = line.split('#').next().expect("a part").split_whitespace().collect();
+            if bytes.is_empty() {
+                continue;
+            }
+            let end = before + bytes.len();
+            // A prefix that ends with a whole record is refused for nothing but a function record that is still to come.
+            let refusal = read(&example.file[..end]).err();
+            assert!(refusal.is_none_or(|r| r.number == 7), "{}: {line}", example.name);
+            let cut = read(&example.file[..end - 1]).expect_err("a cut record");
+            assert_eq!((cut.number, cut.position), (2, before), "{}: {line}", example.name);
+            before = end;
+        }
+        assert_eq!(before, example.file.len());
+    }
+}
+
+#[test]
+fn walks_stay_within_the_table_of_each_example() {
+    for example in examples() {
+        let program = read(&example.file).expect("readable");
+        let mut table = Table::new();
+        verdict(&example.file, &mut table);
+        witnessed(&program, &table, 0..50, 2_000).unwrap_or_else(|violation| panic!("{}: {violation}", example.name));
+    }
+}
+
+/// The leak of `adsafe-leaks` takes more steps in a row than random walks find, and the alarm of `wrapper-shared` is false.
+#[test]
+fn walks_come_to_hold_what_the_short_examples_leak() {
+    let short = ["journal-leaks", "logger-leaks", "site-shared"];
+    for example in examples().iter().filter(|example| short.contains(&example.name.as_str())) {
+        let program = read(&example.file).expect("readable");
+        let mut table = Table::new();
+        let Answer::Leaks { label, .. } = verdict(&example.file, &mut table) else { panic!("{} leaks", example.name) };
+        let seen = witnessed(&program, &table, 0..50, 2_000).expect("within the table");
+        assert!(seen[1] >> label & 1 == 1, "{}", example.name);
+    }
+}
+
+#[test]
+fn bytes_refuses_what_is_no_byte() {
+    let path = Path::new(env!("CARGO_TARGET_TMPDIR")).join("no-byte.txt");
+    for (text, good) in [("0 255 # 256", true), ("", true), ("256", false), ("1000", false), ("-1", false), ("0x1", false), ("3 3 x", false)] {
+        std::fs::write(&path, text).expect("written");
+        let made = made_bytes(&path);
+        assert_eq!(made.status.success(), good, "{text}");
+        assert!(good || made.stdout.is_empty(), "{text}");
+    }
+}
