@@ -5,7 +5,8 @@ use second::machine::witnessed;
 use second::reader::read;
 use second::report::report;
 use std::path::{Path, PathBuf};
-use std::process::Command;
+use std::process::{Command, Output};
+use std::sync::atomic::{AtomicUsize, Ordering};
 
 struct Example {
     name: String,
@@ -17,8 +18,16 @@ fn folder() -> PathBuf {
     Path::new(env!("CARGO_MANIFEST_DIR")).join("../../examples")
 }
 
-fn made_bytes(path: &Path) -> std::process::Output {
+fn made_bytes(path: &Path) -> Output {
     Command::new(folder().join("bytes")).arg(path).output().expect("examples/bytes runs")
+}
+
+/// What `examples/bytes` makes of a text.
+fn bytes_of(text: &str) -> Output {
+    static FILES: AtomicUsize = AtomicUsize::new(0);
+    let path = Path::new(env!("CARGO_TARGET_TMPDIR")).join(format!("text-{}.txt", FILES.fetch_add(1, Ordering::Relaxed)));
+    std::fs::write(&path, text).expect("written");
+    made_bytes(&path)
 }
 
 fn examples() -> Vec<Example> {
@@ -105,12 +114,34 @@ fn walks_come_to_hold_what_the_short_examples_leak() {
     }
 }
 
+/// The confined examples are confined for the reason they give.
+#[test]
+fn one_changed_record_lets_the_forbidden_object_out() {
+    let changes = [
+        ("journal-confined", "21 7 0 7 0 6 0 0 0 0 0", "21 7 0 7 2 6 0 0 0 0 0"), // the listener has the journal as this
+        ("logger-confined", "18 8 2 129 11", "18 8 2 128 11"),                    // store takes every name
+        ("sealer-confined", "17 0 8 4 4 18", "17 0 8 4 5 18"),                    // the API has unseal
+        ("mint-confined", "23 17 26", "23 17 17"),                                // getDecr returns decr, not its box
+        ("mint-confined", "17 18 29 28 8 32", "17 18 29 28 8 31"),                // src.getDecr and brand.seal share a wrapper
+        ("adsafe-confined", "18 8 7 130 15", "18 8 7 128 15"),                    // lib takes every name
+        ("wrapper-apart", "17 7 10 8 6 11", "17 7 10 8 6 10"),                    // both loads share a wrapper
+        ("site-apart", "21 0 4 6 0 0 0 0 0 0 0", "21 0 4 2 0 0 0 0 0 0 0"),       // both calls share a helper
+    ];
+    let examples = examples();
+    for (name, record, changed) in changes {
+        let example = examples.iter().find(|example| example.name == name).expect("an example");
+        let lines = example.text.lines().map(|line| if line.split('#').next().expect("a part").trim() == record { changed } else { line });
+        let text = lines.collect::<Vec<_>>().join("\n");
+        assert!(text.contains(changed), "{name} has the record {record}");
+        let answer = verdict(&bytes_of(&text).stdout, &mut Table::new());
+        assert!(matches!(answer, Answer::Leaks { label: 5, .. }), "{name} with {changed}: {answer}");
+    }
+}
+
 #[test]
 fn bytes_refuses_what_is_no_byte() {
-    let path = Path::new(env!("CARGO_TARGET_TMPDIR")).join("no-byte.txt");
     for (text, good) in [("0 255 # 256", true), ("", true), ("256", false), ("1000", false), ("-1", false), ("0x1", false), ("3 3 x", false)] {
-        std::fs::write(&path, text).expect("written");
-        let made = made_bytes(&path);
+        let made = bytes_of(text);
         assert_eq!(made.status.success(), good, "{text}");
         assert!(good || made.stdout.is_empty(), "{text}");
     }
