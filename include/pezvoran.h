@@ -53,7 +53,7 @@ static inline pezvoran_outcome pezvoran_outcome_of(uint64_t answer)
     return pezvoran_number(answer) != 0 ? PEZVORAN_REFUSED : (pezvoran_outcome)(answer >> 4 & 15);
 }
 
-/* The position of a refusal; else 0. pezvoran_position_means says of what. */
+/* The position of a refusal; else 0. pezvoran_position_means says what it is. */
 static inline uint64_t pezvoran_position(uint64_t answer)
 {
     return pezvoran_number(answer) != 0 ? answer >> 4 : 0;
@@ -106,16 +106,20 @@ static inline const char *pezvoran_refusal_text(unsigned number)
     }
 }
 
-/* What a refusal's position counts, in a word or two; empty for the two refusals that have none (8 and 9). */
+/* What a refusal's position is, in a word or two; empty where it has none. */
 static inline const char *pezvoran_position_means(unsigned number)
 {
     switch (number) {
-    case PEZVORAN_TABLE_TOO_SHORT:
-    case PEZVORAN_FILE_TOO_LONG: return "";
+    case PEZVORAN_UNKNOWN_KIND:
+    case PEZVORAN_RECORD_CUT_SHORT:
+    case PEZVORAN_BAD_VARIABLE:
+    case PEZVORAN_BAD_LABEL:
+    case PEZVORAN_BAD_VALUE:
+    case PEZVORAN_DECLARED_TWICE: return "record at byte";
     case PEZVORAN_FUNCTION_MISSING: return "file length";
     case PEZVORAN_TABLE_NOT_CLOSED: return "row";
     case PEZVORAN_FORBIDDEN_HELD: return "label";
-    default: return "record at byte";
+    default: return "";
     }
 }
 

@@ -185,6 +185,12 @@ static void an_empty_table_is_not_closed(void)
     free(table);
 }
 
+static void a_pointer_to_nothing_may_be_null(void)
+{
+    must(pezvoran_number(verdict(NULL, 0, NULL, 0)) == PEZVORAN_TABLE_TOO_SHORT, "the verdict refuses 8");
+    must(pezvoran_number(check(NULL, 0, NULL, 0)) == PEZVORAN_TABLE_TOO_SHORT, "the check refuses 8");
+}
+
 int main(void)
 {
     memset(longest, 3, sizeof longest);
@@ -199,8 +205,9 @@ int main(void)
             free(left);
         }
     }
-    running = "empty table";
+    running = "no file";
     an_empty_table_is_not_closed();
+    a_pointer_to_nothing_may_be_null();
     printf("guard: nothing outside the slices is touched, and the check only reads\n");
     return 0;
 }

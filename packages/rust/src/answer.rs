@@ -90,11 +90,11 @@ impl Refusal {
 impl fmt::Display for Refusal {
     fn fmt(&self, f: &mut fmt::Formatter<'_>) -> fmt::Result {
         let place = match self.number {
-            8 | 9 => return f.write_str(self.text()),
+            1..=6 => "record at byte",
             7 => "file length",
             10 => "row",
             11 => "label",
-            _ => "record at byte",
+            _ => return f.write_str(self.text()),
         };
         write!(f, "{} ({place} {})", self.text(), self.position)
     }
