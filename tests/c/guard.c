@@ -9,7 +9,7 @@
 #include <string.h>
 #include <sys/mman.h>
 
-enum { GUARD = 64, GUARD_BYTE = 0xa5, PAGE = 4096 };
+enum { GUARD = 64, GUARD_BYTE = 0xa5, PAGE = 65536 }; /* PAGE: a multiple of the usual page sizes */
 
 static const uint8_t confined[] = {2, 5, 1, 0, 3, 5, 5, 2, 0, 255, 8, 2, 5};
 static const uint8_t leaks[] = {2, 5, 1, 0, 3, 5, 5, 2, 0, 255, 8, 2, 5, 6, 2};
