@@ -1,0 +1,132 @@
+//! The shapes of courses: through which rows the runners pass.
+
+use super::course::{Course, FIRST, FRESH, SELF, SINK};
+use super::filler::Filler;
+
+#[derive(Clone, Copy, PartialEq, Eq, Debug)]
+pub enum Shape {
+    /// S to S by copies.
+    Copies,
+    /// S to H by a store, H to S by a load.
+    Properties,
+    /// S to H by a store, H to P by a new, P to P by prototypes of prototypes, P to S by a load.
+    Prototypes,
+    /// S to T by a throw, T to T by calls, T to S by a catch.
+    Throws,
+    /// S to S by arguments, six for each call.
+    Calls,
+    /// S to S by what a function returns.
+    Returns,
+    /// As many rows as there are: S to H or T, and back to S.
+    Longest,
+}
+
+pub const SHAPES: [Shape; 7] = [
+    Shape::Copies,
+    Shape::Properties,
+    Shape::Prototypes,
+    Shape::Throws,
+    Shape::Calls,
+    Shape::Returns,
+    Shape::Longest,
+];
+
+/// A full file with a course of the shape; whatever variables the shape has no use for are passed by copies.
+pub fn worst(shape: Shape, filler: Filler, watching: bool, seed: u64) -> Vec<u8> {
+    let mut course = Course::new(seed);
+    match shape {
+        Shape::Copies => {}
+        Shape::Properties => properties(&mut course, 0),
+        Shape::Prototypes => prototypes(&mut course),
+        Shape::Throws => throws(&mut course),
+        Shape::Calls => calls(&mut course),
+        Shape::Returns => returns(&mut course),
+        Shape::Longest => properties(&mut course, 56),
+    }
+    while course.left() > 0 {
+        let (from, to) = course.step();
+        course.link(|w| w.copy(0, to, from));
+    }
+    course.finish(filler, watching)
+}
+
+/// Through properties of few functions, thirty of each; `thrown` of the steps by throw and catch in a scope of their own.
+fn properties(course: &mut Course, thrown: usize) {
+    let mut steps = vec![None; thrown];
+    for (i, step) in steps.iter_mut().enumerate() {
+        *step = Some(FIRST + i as u8);
+    }
+    let boxes = (course.left() - thrown).div_ceil(31);
+    let holders: Vec<u8> = (0..boxes as u8).map(|i| course.holder(63 - i)).collect();
+    course.closed = (0..boxes as u8).map(|i| 63 - i).collect();
+    steps.resize(course.left(), None);
+    course.r.shuffle(&mut steps);
+    let mut used = 0;
+    for scope in steps {
+        let (from, to) = course.step();
+        if let Some(k) = scope {
+            course.link(|w| w.throw(k, from));
+            course.link(|w| w.catch(k, to));
+        } else {
+            let (object, name) = (holders[used / 30], (used % 30) as u8);
+            course.link(|w| w.store(0, object, name, from));
+            course.link(|w| w.load(0, to, object, name, FRESH));
+            used += 1;
+        }
+    }
+}
+
+/// Labels 63 down to 44 are made by functions 8 to 27, each with the one before as prototype, the first with the runner.
+fn prototypes(course: &mut Course) {
+    const LENGTH: u8 = 20;
+    course.plain = (64 - LENGTH..64).collect();
+    course.closed = (FIRST..FIRST + LENGTH).collect();
+    let (from, to) = course.step();
+    for i in 0..LENGTH {
+        let (maker, made) = (FIRST + i, 63 - i);
+        let holder = course.holder(maker);
+        if i == 0 {
+            course.link(|w| w.store(0, holder, 3, from));
+        } else {
+            course.at_start(|w| w.property(maker, 3, made + 1));
+        }
+        course.link(|w| w.new_object(0, 0, holder, SINK, made, [0; 6]));
+    }
+    let last = course.holder(64 - LENGTH);
+    course.link(|w| w.load(0, to, last, SELF, FRESH));
+}
+
+/// Each function calls the one before; what the first throws reaches the last.
+fn throws(course: &mut Course) {
+    let (from, to) = course.step();
+    course.link(|w| w.throw(FIRST, from));
+    for f in FIRST + 1..64 {
+        let before = course.holder(f - 1);
+        course.link(|w| w.call(f, 0, before, 0, [0; 6]));
+    }
+    course.link(|w| w.catch(63, to));
+}
+
+/// Six steps for each call: the last argument is the first to move on, so that a visit moves a runner one step.
+fn calls(course: &mut Course) {
+    for f in FIRST..FIRST + 34 {
+        let holder = course.holder(f);
+        let (mut args, mut formals) = ([0; 6], [0; 6]);
+        for i in (0..6).rev() {
+            (args[i], formals[i]) = course.step();
+        }
+        course.called.push((f, formals));
+        course.link(|w| w.call(0, 0, holder, 0, args));
+    }
+}
+
+/// Each function returns the variable reached last, and its call puts that in the next.
+fn returns(course: &mut Course) {
+    for f in FIRST..FIRST + 50 {
+        let holder = course.holder(f);
+        let (from, to) = course.step();
+        course.called.push((f, [SINK; 6]));
+        course.at_start(|w| w.give_back(f, from));
+        course.link(|w| w.call(0, to, holder, 0, [0; 6]));
+    }
+}

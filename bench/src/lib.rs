@@ -1,0 +1,6 @@
+//! Files that are slow to judge, and the solvers that are timed on them.
+
+pub mod archive;
+pub mod files;
+pub mod hand;
+pub mod passes;

@@ -1,0 +1,239 @@
+//! Counts the passes that a file forces: every rule in the order of the file, on the table as it then stands, until a pass
+//! adds nothing.
+//!
+//! A record is left out of a pass where none of the rows it reads has grown since the pass before the last, which alters
+//! no table; what is not left out counts as a visit.
+
+use second::program::{Program, Record, Type, BAG};
+use second::rows::{bit, h, labels, p, s, t, ROWS};
+
+#[derive(Clone, Copy, PartialEq, Eq, Debug, Default)]
+pub struct Count {
+    pub passes: u64,
+    pub visits: u64,
+}
+
+struct Passes<'a> {
+    program: &'a Program,
+    names: Vec<Vec<u8>>,
+    functions: u64,
+    returns: Vec<Vec<u8>>,
+    /// For each variable the scopes that return it.
+    returned_by: Vec<u64>,
+    table: Vec<u64>,
+    /// The pass in which each row last grew.
+    grown: Vec<u64>,
+    count: Count,
+    grew: bool,
+    /// Labels whose H, P or T rows or returns grew in this pass, and those of the last one.
+    now: Recent,
+    before: Recent,
+    /// The chains of each record's object, as last computed.
+    chains: Vec<u64>,
+}
+
+/// Labels of which a row of the kind has grown.
+#[derive(Clone, Copy, Default)]
+struct Recent {
+    properties: u64,
+    chains: u64,
+    throws: u64,
+    returns: u64,
+}
+
+/// The passes until one adds nothing, that one included; none where there are more visits than the limit.
+pub fn count(program: &Program, limit: u64) -> Option<(Count, Vec<u64>)> {
+    let records: Vec<Record> = program.guest.iter().chain(&program.records).copied().collect();
+    let mut passes = Passes::new(program, records.len());
+    loop {
+        passes.count.passes += 1;
+        passes.before = std::mem::take(&mut passes.now);
+        passes.grew = false;
+        passes.declared();
+        for (i, &record) in records.iter().enumerate() {
+            passes.record(i, record);
+        }
+        if !passes.grew {
+            return Some((passes.count, passes.table));
+        }
+        if passes.count.visits > limit {
+            return None;
+        }
+    }
+}
+
+impl Passes<'_> {
+    fn new(program: &Program, records: usize) -> Passes<'_> {
+        let mut returns = vec![Vec::new(); 64];
+        let mut returned_by = vec![0; 256];
+        for record in program.all_records() {
+            if let Record::Return { k, value } = record {
+                returns[k as usize].push(value);
+                returned_by[value as usize] |= bit(k);
+            }
+        }
+        Passes {
+            program,
+            names: (0..136).map(|key| program.names(key).collect()).collect(),
+            functions: (0..64).filter(|&l| program.function(l).is_some()).fold(0, |row, l| row | bit(l)),
+            returns,
+            returned_by,
+            table: vec![0; ROWS],
+            grown: vec![0; ROWS],
+            count: Count::default(),
+            grew: false,
+            now: Recent::default(),
+            before: Recent::default(),
+            chains: vec![0; records],
+        }
+    }
+
+    fn add(&mut self, row: usize, facts: u64) {
+        if facts & !self.table[row] == 0 || row == 0 {
+            return;
+        }
+        self.table[row] |= facts;
+        self.grown[row] = self.count.passes;
+        self.grew = true;
+        match row {
+            0..256 => self.now.returns |= self.returned_by[row],
+            256..2304 => self.now.properties |= 1 << ((row - 256) / 32),
+            2304..2368 => self.now.chains |= 1 << (row - 2304),
+            _ => self.now.throws |= 1 << (row - 2368),
+        }
+    }
+
+    fn recent(&self, row: usize) -> bool {
+        self.grown[row] + 1 >= self.count.passes
+    }
+
+    fn include(&mut self, row: usize, from: usize) {
+        self.add(row, self.table[from]);
+    }
+
+    /// The P line and the names of variables.
+    fn declared(&mut self) {
+        for (l, label) in self.program.declared() {
+            let by_type = match label.kind {
+                Type::Plain => 1,
+                Type::Function => 2,
+                Type::Array => 4,
+            };
+            let by_label = match l {
+                0 | 2 | 4 => bit(1),
+                3 => bit(1) | bit(2) | bit(4),
+                _ => 0,
+            };
+            self.add(p(l), bit(l) | bit(by_type) | by_label);
+            self.add(p(l), self.chains_of(self.table[p(l)]));
+        }
+        for (v, n) in self.program.named() {
+            self.include(s(v), h(0, n));
+            self.include(h(0, n), s(v));
+        }
+    }
+
+    fn chains_of(&self, holders: u64) -> u64 {
+        labels(holders).fold(0, |all, l| all | self.table[p(l)])
+    }
+
+    /// The labels on the chains of the holders whose properties a record has to read again; the holders are those of `row`.
+    fn to_read(&mut self, record: usize, row: usize, holders: u64) -> u64 {
+        if self.recent(row) || (self.now.chains | self.before.chains) & holders != 0 {
+            self.chains[record] = self.chains_of(holders);
+            return self.chains[record];
+        }
+        self.chains[record] & (self.now.properties | self.before.properties)
+    }
+
+    fn record(&mut self, i: usize, record: Record) {
+        match record {
+            Record::Grant { v } => {
+                self.include(s(BAG), s(v));
+                self.include(s(v), s(BAG));
+            }
+            Record::Property { l, n, x } => self.add(h(l, n), bit(x)),
+            Record::Held { v, l } => self.add(s(v), bit(l)),
+            Record::Copy { y, source, .. } => self.include(s(y), s(source)),
+            Record::Load { y, object, key, w, .. } => {
+                self.add(s(object), bit(w));
+                let from = self.to_read(i, s(object), self.table[s(object)] | bit(w));
+                let found = labels(from).fold(0, |all, m| {
+                    self.names[key as usize].iter().fold(all, |all, &n| all | self.table[h(m, n)])
+                });
+                self.count.visits += (from != 0) as u64;
+                self.add(s(y), found);
+            }
+            Record::Store { object, key, value, .. } => {
+                if self.recent(s(object)) || self.recent(s(value)) {
+                    self.store(object, key, value);
+                }
+            }
+            Record::Make { y, l, .. } => self.add(s(y), bit(l)),
+            Record::MakeFunction { y, l, q, .. } => {
+                self.add(s(y), bit(l));
+                self.add(h(l, 3), bit(q));
+            }
+            Record::Call { k, y, callee, this, args } => self.call(k, y, callee, this, args),
+            Record::New { k, y, callee, t, l, args } => {
+                self.add(s(t), bit(l));
+                self.include(s(y), s(t));
+                let from = self.to_read(i, s(callee), self.table[s(callee)]);
+                let found = labels(from).fold(0, |all, m| all | self.table[h(m, 3)]);
+                self.count.visits += (from != 0) as u64;
+                self.add(p(l), found);
+                self.call(k, y, callee, t, args);
+            }
+            Record::Return { .. } => {}
+            Record::Throw { k, value } => self.include(t(k), s(value)),
+            Record::Catch { k, y } => self.include(s(y), t(k)),
+            Record::Prim { k, object } => {
+                let again = self.to_read(i, s(object), self.table[s(object)]) != 0;
+                if again || self.now.throws | self.before.throws != 0 {
+                    self.prim(i, k, object);
+                }
+            }
+        }
+    }
+
+    fn store(&mut self, object: u8, key: u8, value: u8) {
+        self.count.visits += 1;
+        for l in labels(self.table[s(object)]).filter(|&l| !self.program.is_built_in(l)) {
+            for i in 0..self.names[key as usize].len() {
+                self.include(h(l, self.names[key as usize][i]), s(value));
+            }
+        }
+    }
+
+    fn call(&mut self, k: u8, y: u8, callee: u8, this: u8, args: [u8; 6]) {
+        let called = self.table[s(callee)] & self.functions;
+        let changed = self.now.throws | self.before.throws | self.now.returns | self.before.returns;
+        let passed = [callee, this].iter().chain(&args).any(|&v| self.recent(s(v)));
+        if called & changed == 0 && !passed {
+            return;
+        }
+        self.count.visits += 1;
+        for f in labels(if passed { called } else { called & changed }) {
+            let function = self.program.functions[f as usize].expect("a function label has a function");
+            if passed {
+                self.include(s(function.this), s(this));
+                for (formal, arg) in function.formals.into_iter().zip(args) {
+                    self.include(s(formal), s(arg));
+                }
+            }
+            let returned = self.returns[f as usize].iter().fold(0, |all, &v| all | self.table[s(v)]);
+            self.add(s(y), returned);
+            self.include(t(k), t(f));
+        }
+    }
+
+    fn prim(&mut self, i: usize, k: u8, object: u8) {
+        self.count.visits += 1;
+        let found = labels(self.chains[i]).fold(0, |all, m| all | self.table[h(m, 1)] | self.table[h(m, 2)]);
+        for f in labels(found & self.functions) {
+            let function = self.program.functions[f as usize].expect("a function label has a function");
+            self.include(s(function.this), s(object));
+            self.include(t(k), t(f));
+        }
+    }
+}
