@@ -1,6 +1,6 @@
 //! The hand-written opponent: a solver of the rules with all the memory it likes.
 //!
-//! Every rule becomes inclusions between rows, kept as bit sets so that none is laid twice; a queue of rows hands on
+//! Every rule becomes inclusions between rows, kept as bit sets so that none is laid twice; a stack of rows hands on
 //! only the labels that are new. Rows for chains of variables, for returns and for methods are added to those of the table.
 
 mod lay;
@@ -12,7 +12,6 @@ use second::program::{Program, BAG};
 use second::reader::read;
 use second::rows::{labels, s, ROWS};
 use sets::{Names, Variables};
-use std::collections::VecDeque;
 
 /// Row of the labels on the chains of what variable v holds.
 const CHAINS: usize = ROWS;
@@ -50,7 +49,8 @@ struct Solver<'a> {
     stored_on: u64,
     rows: Vec<u64>,
     fresh: Vec<u64>,
-    queue: VecDeque<u16>,
+    /// Rows with labels not yet handed on; last come, first served.
+    waiting: Vec<u16>,
     uses: Vec<Uses>,
     /// y and names of the loads from variable 0, by their fresh object.
     fresh_loads: Vec<Vec<(u8, u32)>>,
@@ -102,7 +102,7 @@ impl Solver<'_> {
             stored_on: row(&|l| !program.is_built_in(l)),
             rows: vec![0; ALL_ROWS],
             fresh: vec![0; ALL_ROWS],
-            queue: VecDeque::with_capacity(ALL_ROWS),
+            waiting: Vec::with_capacity(ALL_ROWS),
             uses: vec![Uses::default(); 256],
             fresh_loads: vec![Vec::new(); 64],
             variables_of_variable: vec![[0; 4]; 256],
@@ -128,7 +128,7 @@ impl Solver<'_> {
             return;
         }
         if self.fresh[row] == 0 {
-            self.queue.push_back(row as u16);
+            self.waiting.push(row as u16);
         }
         self.rows[row] |= new;
         self.fresh[row] |= new;

@@ -1,6 +1,9 @@
 //! Files that are slow to judge, and the solvers that are timed on them.
 
 pub mod archive;
+pub mod compared;
 pub mod files;
 pub mod hand;
 pub mod passes;
+pub mod stack;
+pub mod table;

@@ -1,24 +1,91 @@
-use bench::files::{dense, ordinary, filler::Filler, worst, LONGEST};
-use std::time::Instant;
+//! Prints the tables of the benchmark. The first argument is the limit for the archive on one file, in seconds.
+
+use bench::compared::{compared, Compared};
+use bench::files::filler::{Filler, FILLERS};
+use bench::files::worst::{worst, Shape, SHAPES};
+use bench::files::{dense, ordinary::ordinary, LONGEST};
+use bench::stack::used_by;
+use bench::table;
+use std::time::Duration;
+
+type Named = (String, Vec<u8>);
+
 fn main() {
-    let mut all = vec![];
-    for seed in 1..=3 { all.push((format!("ordinary-{seed}"), ordinary::ordinary(LONGEST, seed))); }
-    for kind in dense::KINDS { all.push((format!("dense-{kind}"), dense::dense(kind, 1))); }
-    for shape in worst::SHAPES { all.push((format!("{shape:?}-Mixed"), worst::worst(shape, Filler::Mixed, true, 1))); }
-    for f in [Filler::Copies, Filler::Loads, Filler::Stores, Filler::Calls, Filler::News, Filler::Returns, Filler::Throws, Filler::Prims] {
-        for watching in [true, false] { all.push((format!("Longest-{f:?}-{watching}"), worst::worst(worst::Shape::Longest, f, watching, 1))); }
+    let seconds = std::env::args().nth(1).map_or(10, |argument| argument.parse().expect("a number of seconds"));
+    let limit = Duration::from_secs(seconds);
+    section("Ordinary full files", limit, (1..=5).map(|seed| (format!("ordinary {seed}"), ordinary(LONGEST, seed))));
+    let sizes = [1, 2, 4, 8, 16, 32].into_iter().map(|size| (format!("ordinary, {size} kB"), ordinary(1024 * size, 6)));
+    section("Growth: ordinary files of rising size", limit, sizes);
+    section("Dense files", limit, dense_files());
+    section("Worst-case files", limit, worst_files());
+    section("Slowest files found by the search", limit, slowest());
+    stack();
+}
+
+/// A table of files, after it is known that all solvers agree on them.
+fn section(title: &str, limit: Duration, files: impl IntoIterator<Item = Named>) {
+    println!("## {title}\n");
+    let mut rows = vec![Compared::titles()];
+    for (name, file) in files {
+        eprintln!("{name}");
+        rows.push(compared(&name, &file, limit).line(limit));
     }
-    for (name, file) in all {
-        let program = match second::reader::read(&file) { Ok(p) => p, Err(e) => { println!("{name} {e:?}"); continue } };
-        let b = Instant::now();
-        let (answer, table) = bench::hand::verdict(&file);
-        let hand = b.elapsed();
-        let b = Instant::now();
-        let second = second::solver::solve(&program);
-        let sec = b.elapsed();
-        let b = Instant::now();
-        let c = bench::passes::count(&program, 300_000_000);
-        let pt = b.elapsed();
-        println!("{name} {} bytes {} records {answer:?} same {} hand {hand:?} second {sec:?} passes {:?} same {:?} {pt:?}", file.len(), bench::files::records(&file), table == second.table, c.as_ref().map(|c| c.0), c.as_ref().map(|c| c.1 == table));
+    table::print(&rows);
+}
+
+fn dense_files() -> Vec<Named> {
+    let named = |kind: u8, seed| (format!("dense, kind {kind}, {seed}"), dense::dense(kind, seed));
+    dense::KINDS.into_iter().flat_map(|kind| [named(kind, 1), named(kind, 2)]).collect()
+}
+
+/// Every shape with mixed filler, and the longest course with every filler.
+fn worst_files() -> Vec<Named> {
+    let mut files = Vec::new();
+    let mut put = |shape: Shape, filler: Filler, watching: bool, seed: u64| {
+        let name = format!("{shape:?}, {} {filler:?}, {seed}", if watching { "watching" } else { "idle" });
+        files.push((name.to_lowercase(), worst(shape, filler, watching, seed)));
+    };
+    for shape in SHAPES {
+        put(shape, Filler::Mixed, true, 1);
+        put(shape, Filler::Mixed, true, 2);
     }
+    put(Shape::Longest, Filler::Mixed, false, 1);
+    for filler in FILLERS {
+        put(Shape::Longest, filler, true, 1);
+        put(Shape::Longest, filler, false, 1);
+    }
+    files
+}
+
+/// The files in `slowest/`, by name.
+fn slowest() -> Vec<Named> {
+    let folder = concat!(env!("CARGO_MANIFEST_DIR"), "/slowest");
+    let Ok(entries) = std::fs::read_dir(folder) else { return Vec::new() };
+    let mut files: Vec<Named> = entries
+        .map(|entry| entry.expect("the folder can be read").path())
+        .filter(|path| path.extension().is_some_and(|extension| extension == "bin"))
+        .map(|path| {
+            let name = path.file_stem().expect("a file has a name").to_string_lossy().into_owned();
+            (name, std::fs::read(path).expect("the file can be read"))
+        })
+        .collect();
+    files.sort();
+    files
+}
+
+/// What both operations use of the stack, on an ordinary and on a dense file.
+fn stack() {
+    println!("## Stack\n");
+    let mut rows = vec![["file", "verdict, bytes", "check, bytes"].map(str::to_string).to_vec()];
+    for (name, file) in [("empty", vec![]), ("ordinary", ordinary(LONGEST, 1)), ("dense", dense::dense(0, 1))] {
+        let mut lent = vec![0; compare::TABLE_WORDS];
+        let verdict = used_by(|| {
+            compare::verdict(&file, &mut lent);
+        });
+        let check = used_by(|| {
+            compare::check(&file, &lent);
+        });
+        rows.push(vec![name.to_string(), table::thousands(verdict as u64), table::thousands(check as u64)]);
+    }
+    table::print(&rows);
 }

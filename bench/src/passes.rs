@@ -6,6 +6,7 @@
 
 use second::program::{Program, Record, Type, BAG};
 use second::rows::{bit, h, labels, p, s, t, ROWS};
+use std::time::{Duration, Instant};
 
 #[derive(Clone, Copy, PartialEq, Eq, Debug, Default)]
 pub struct Count {
@@ -17,9 +18,9 @@ struct Passes<'a> {
     program: &'a Program,
     names: Vec<Vec<u8>>,
     functions: u64,
-    returns: Vec<Vec<u8>>,
-    /// For each variable the scopes that return it.
+    /// For each variable the scopes that return it, and for each scope what it returns so far.
     returned_by: Vec<u64>,
+    returned: Vec<u64>,
     table: Vec<u64>,
     /// The pass in which each row last grew.
     grown: Vec<u64>,
@@ -28,8 +29,9 @@ struct Passes<'a> {
     /// Labels whose H, P or T rows or returns grew in this pass, and those of the last one.
     now: Recent,
     before: Recent,
-    /// The chains of each record's object, as last computed.
+    /// For each record the chains of its object as last computed, and what a prim has found there.
     chains: Vec<u64>,
+    found: Vec<u64>,
 }
 
 /// Labels of which a row of the kind has grown.
@@ -41,8 +43,9 @@ struct Recent {
     returns: u64,
 }
 
-/// The passes until one adds nothing, that one included; none where there are more visits than the limit.
-pub fn count(program: &Program, limit: u64) -> Option<(Count, Vec<u64>)> {
+/// The passes until one adds nothing, that one included; none where counting takes longer than the limit.
+pub fn count(program: &Program, limit: Duration) -> Option<(Count, Vec<u64>)> {
+    let start = Instant::now();
     let records: Vec<Record> = program.guest.iter().chain(&program.records).copied().collect();
     let mut passes = Passes::new(program, records.len());
     loop {
@@ -56,7 +59,7 @@ pub fn count(program: &Program, limit: u64) -> Option<(Count, Vec<u64>)> {
         if !passes.grew {
             return Some((passes.count, passes.table));
         }
-        if passes.count.visits > limit {
+        if start.elapsed() > limit {
             return None;
         }
     }
@@ -64,11 +67,9 @@ pub fn count(program: &Program, limit: u64) -> Option<(Count, Vec<u64>)> {
 
 impl Passes<'_> {
     fn new(program: &Program, records: usize) -> Passes<'_> {
-        let mut returns = vec![Vec::new(); 64];
         let mut returned_by = vec![0; 256];
         for record in program.all_records() {
             if let Record::Return { k, value } = record {
-                returns[k as usize].push(value);
                 returned_by[value as usize] |= bit(k);
             }
         }
@@ -76,8 +77,8 @@ impl Passes<'_> {
             program,
             names: (0..136).map(|key| program.names(key).collect()).collect(),
             functions: (0..64).filter(|&l| program.function(l).is_some()).fold(0, |row, l| row | bit(l)),
-            returns,
             returned_by,
+            returned: vec![0; 64],
             table: vec![0; ROWS],
             grown: vec![0; ROWS],
             count: Count::default(),
@@ -85,6 +86,7 @@ impl Passes<'_> {
             now: Recent::default(),
             before: Recent::default(),
             chains: vec![0; records],
+            found: vec![0; records],
         }
     }
 
@@ -96,7 +98,10 @@ impl Passes<'_> {
         self.grown[row] = self.count.passes;
         self.grew = true;
         match row {
-            0..256 => self.now.returns |= self.returned_by[row],
+            0..256 => {
+                self.now.returns |= self.returned_by[row];
+                labels(self.returned_by[row]).for_each(|f| self.returned[f as usize] |= facts);
+            }
             256..2304 => self.now.properties |= 1 << ((row - 256) / 32),
             2304..2368 => self.now.chains |= 1 << (row - 2304),
             _ => self.now.throws |= 1 << (row - 2368),
@@ -187,12 +192,7 @@ impl Passes<'_> {
             Record::Return { .. } => {}
             Record::Throw { k, value } => self.include(t(k), s(value)),
             Record::Catch { k, y } => self.include(s(y), t(k)),
-            Record::Prim { k, object } => {
-                let again = self.to_read(i, s(object), self.table[s(object)]) != 0;
-                if again || self.now.throws | self.before.throws != 0 {
-                    self.prim(i, k, object);
-                }
-            }
+            Record::Prim { k, object } => self.prim(i, k, object),
         }
     }
 
@@ -221,16 +221,19 @@ impl Passes<'_> {
                     self.include(s(formal), s(arg));
                 }
             }
-            let returned = self.returns[f as usize].iter().fold(0, |all, &v| all | self.table[s(v)]);
-            self.add(s(y), returned);
+            self.add(s(y), self.returned[f as usize]);
             self.include(t(k), t(f));
         }
     }
 
     fn prim(&mut self, i: usize, k: u8, object: u8) {
-        self.count.visits += 1;
-        let found = labels(self.chains[i]).fold(0, |all, m| all | self.table[h(m, 1)] | self.table[h(m, 2)]);
-        for f in labels(found & self.functions) {
+        let from = self.to_read(i, s(object), self.table[s(object)]);
+        let found = labels(from).fold(self.found[i], |all, m| all | self.table[h(m, 1)] | self.table[h(m, 2)]);
+        let again = found != self.found[i] || self.recent(s(object));
+        self.found[i] = found;
+        let called = if again { found } else { found & (self.now.throws | self.before.throws) } & self.functions;
+        self.count.visits += (from | called != 0) as u64;
+        for f in labels(called) {
             let function = self.program.functions[f as usize].expect("a function label has a function");
             self.include(s(function.this), s(object));
             self.include(t(k), t(f));

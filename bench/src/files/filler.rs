@@ -18,7 +18,7 @@ pub enum Filler {
     Mixed,
 }
 
-const EVERY: [Filler; 8] = [
+pub const FILLERS: [Filler; 8] = [
     Filler::Copies,
     Filler::Loads,
     Filler::Stores,
@@ -35,7 +35,7 @@ pub fn records(course: &mut Course, filler: Filler, watching: bool, room: usize)
     let mut all = Vec::new();
     let mut left = room;
     loop {
-        let filler = if filler == Filler::Mixed { course.r.pick(&EVERY) } else { filler };
+        let filler = if filler == Filler::Mixed { course.r.pick(&FILLERS) } else { filler };
         let bytes = record(course, filler, watching);
         if bytes.len() > left {
             return all;

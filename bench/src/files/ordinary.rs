@@ -33,8 +33,10 @@ pub fn ordinary(size: usize, seed: u64) -> Vec<u8> {
     }
     // Functions in turn, each with a run of statements.
     while w.bytes.len() + 12 <= size {
-        let part = &parts[r.chance(1, 9) as usize];
-        let k = if r.chance(1, 4) { 0 } else { r.pick(&part.functions) };
+        // What is thrown at the top level is caught there by any part, so the forbidden part stays off it.
+        let forbidden = r.chance(1, 9);
+        let part = &parts[forbidden as usize];
+        let k = if !forbidden && r.chance(1, 4) { 0 } else { r.pick(&part.functions) };
         let scope = Scope { k, part, own: part.own.iter().filter(|own| own.0 == k).map(|own| own.1).collect() };
         for _ in 0..r.between(4, 24) {
             if w.bytes.len() + 12 <= size {

@@ -6,7 +6,7 @@ use second::rows::{h, p, s, t};
 
 impl Solver<'_> {
     pub fn run(&mut self) {
-        while let Some(row) = self.queue.pop_front() {
+        while let Some(row) = self.waiting.pop() {
             let row = row as usize;
             let new = std::mem::take(&mut self.fresh[row]);
             match row {

@@ -1,0 +1,95 @@
+//! One file given to the archive and its opponents: first that all agree, then how long each takes.
+
+use crate::archive::{best, measured, Measured};
+use crate::table::{milliseconds, ratio, thousands};
+use crate::{files, hand, passes};
+use compare::Answer;
+use second::reader::read;
+use second::solver;
+use std::hint::black_box;
+use std::time::Duration;
+
+/// The opponents are run again and again for this long.
+const TIME: Duration = Duration::from_millis(200);
+/// The count of passes is given up after this long.
+const COUNTING: Duration = Duration::from_secs(20);
+
+pub struct Compared {
+    pub name: String,
+    pub bytes: usize,
+    pub records: usize,
+    pub answer: Answer,
+    pub table: Vec<u64>,
+    pub passes: Option<u64>,
+    /// None where the archive took longer than the limit.
+    pub archive: Option<Measured>,
+    pub hand: Duration,
+    pub second: Duration,
+}
+
+/// Runs all on a readable file; panics where two of them disagree.
+pub fn compared(name: &str, file: &[u8], limit: Duration) -> Compared {
+    let program = read(file).expect("the file is readable");
+    let (answer, table) = hand::verdict(file);
+    assert_eq!(table, solver::solve(&program).table, "{name}: hand-written and second solver");
+    let counted = passes::count(&program, COUNTING);
+    if let Some((_, passed)) = &counted {
+        assert_eq!(&table, passed, "{name}: hand-written solver and passes");
+    }
+    let archive = measured(file, limit);
+    if let Some(archive) = &archive {
+        assert_eq!(answer, archive.answer, "{name}: answers of hand-written solver and archive");
+        assert_eq!(table, archive.table, "{name}: tables of hand-written solver and archive");
+        let expected = match answer {
+            Answer::Leaks { label, .. } => Answer::Refused { number: 11, position: label },
+            _ => Answer::Accepted,
+        };
+        assert_eq!(archive.checked, expected, "{name}: check");
+    }
+    let mut lent = vec![0; second::rows::ROWS];
+    Compared {
+        name: name.to_string(),
+        bytes: file.len(),
+        records: files::records(file),
+        answer,
+        table,
+        passes: counted.map(|(count, _)| count.passes),
+        archive,
+        hand: best(TIME, || drop(black_box(hand::verdict(file)))),
+        second: best(TIME, || drop(black_box(solver::verdict(file, &mut lent)))),
+    }
+}
+
+impl Compared {
+    pub fn facts(&self) -> u64 {
+        match self.answer {
+            Answer::Confined { count } | Answer::Leaks { count, .. } => count,
+            _ => 0,
+        }
+    }
+
+    pub fn titles() -> Vec<String> {
+        let titles = "file|bytes|records|facts|passes|verdict ms|hand ms|second ms|verdict / hand|verdict / second|check ms|check / hand";
+        titles.split('|').map(str::to_string).collect()
+    }
+
+    /// The line of the table, in the order of the titles.
+    pub fn line(&self, limit: Duration) -> Vec<String> {
+        let over = || format!("over {}", limit.as_millis());
+        let times = |show: &dyn Fn(&Measured) -> String| self.archive.as_ref().map_or("".to_string(), show);
+        vec![
+            self.name.clone(),
+            thousands(self.bytes as u64),
+            thousands(self.records as u64),
+            thousands(self.facts()),
+            self.passes.map_or("not counted".to_string(), thousands),
+            self.archive.as_ref().map_or_else(over, |archive| milliseconds(archive.verdict)),
+            milliseconds(self.hand),
+            milliseconds(self.second),
+            times(&|archive| ratio(archive.verdict, self.hand)),
+            times(&|archive| ratio(archive.verdict, self.second)),
+            times(&|archive| milliseconds(archive.check)),
+            times(&|archive| ratio(archive.check, self.hand)),
+        ]
+    }
+}
