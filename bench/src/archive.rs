@@ -35,7 +35,8 @@ pub fn measured(file: &[u8], limit: Duration) -> Option<Measured> {
     }
     child.wait().expect("it is a child of this program");
     let bytes = reading.join().expect("reading does not fail");
-    let words: Vec<u64> = bytes.chunks_exact(8).map(|word| u64::from_le_bytes(word.try_into().expect("8 bytes"))).collect();
+    let words: Vec<u64> =
+        bytes.chunks_exact(8).map(|word| u64::from_le_bytes(word.try_into().expect("8 bytes"))).collect();
     (words.len() == 4 + TABLE_WORDS).then(|| Measured {
         verdict: Duration::from_nanos(words[0]),
         check: Duration::from_nanos(words[1]),

@@ -1,7 +1,7 @@
 //! One file given to the archive and its opponents: first that all agree, then how long each takes.
 
 use crate::archive::{best, measured, Measured};
-use crate::table::{milliseconds, ratio, thousands};
+use crate::table::{limited, milliseconds, ratio, thousands};
 use crate::{files, hand, passes};
 use compare::Answer;
 use second::reader::read;
@@ -75,21 +75,23 @@ impl Compared {
 
     /// The line of the table, in the order of the titles.
     pub fn line(&self, limit: Duration) -> Vec<String> {
-        let over = || format!("over {}", limit.as_millis());
-        let times = |show: &dyn Fn(&Measured) -> String| self.archive.as_ref().map_or("".to_string(), show);
+        let verdict = self.archive.as_ref().map(|archive| archive.verdict);
+        let check = self.archive.as_ref().map(|archive| archive.check);
+        let against =
+            |other| verdict.map_or_else(|| format!("over {}", ratio(limit, other)), |time| ratio(time, other));
         vec![
             self.name.clone(),
             thousands(self.bytes as u64),
             thousands(self.records as u64),
             thousands(self.facts()),
             self.passes.map_or("not counted".to_string(), thousands),
-            self.archive.as_ref().map_or_else(over, |archive| milliseconds(archive.verdict)),
+            limited(verdict, limit),
             milliseconds(self.hand),
             milliseconds(self.second),
-            times(&|archive| ratio(archive.verdict, self.hand)),
-            times(&|archive| ratio(archive.verdict, self.second)),
-            times(&|archive| milliseconds(archive.check)),
-            times(&|archive| ratio(archive.check, self.hand)),
+            against(self.hand),
+            against(self.second),
+            check.map_or(String::new(), milliseconds),
+            check.map_or(String::new(), |time| ratio(time, self.hand)),
         ]
     }
 }

@@ -1,6 +1,7 @@
 //! Files that are slow to judge, and the solvers that are timed on them.
 
 pub mod archive;
+pub mod clingo;
 pub mod compared;
 pub mod files;
 pub mod hand;

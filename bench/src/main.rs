@@ -1,5 +1,6 @@
 //! Prints the tables of the benchmark. The first argument is the limit for the archive on one file, in seconds.
 
+use bench::clingo::grounded;
 use bench::compared::{compared, Compared};
 use bench::files::filler::{Filler, FILLERS};
 use bench::files::worst::{worst, Shape, SHAPES};
@@ -10,6 +11,8 @@ use std::time::Duration;
 
 type Named = (String, Vec<u8>);
 
+const GRINGO_LIMIT: Duration = Duration::from_secs(60);
+
 fn main() {
     let seconds = std::env::args().nth(1).map_or(10, |argument| argument.parse().expect("a number of seconds"));
     let limit = Duration::from_secs(seconds);
@@ -19,6 +22,7 @@ fn main() {
     section("Dense files", limit, dense_files());
     section("Worst-case files", limit, worst_files());
     section("Slowest files found by the search", limit, slowest());
+    clingo();
     stack();
 }
 
@@ -71,6 +75,28 @@ fn slowest() -> Vec<Named> {
         .collect();
     files.sort();
     files
+}
+
+/// The time of the grounder gringo on ordinary and dense files, beside that of the archive.
+fn clingo() {
+    println!("## Clingo\n");
+    let mut rows = vec![["file", "facts", "verdict ms", "gringo ms", "gringo / verdict"].map(str::to_string).to_vec()];
+    let mut files: Vec<Named> = [1, 2].map(|seed| (format!("ordinary {seed}"), ordinary(LONGEST, seed))).to_vec();
+    files.extend([0, 21].map(|kind| (format!("dense, kind {kind}, 1"), dense::dense(kind, 1))));
+    for (name, file) in files {
+        eprintln!("{name}, gringo");
+        let compared = compared(&name, &file, GRINGO_LIMIT);
+        let verdict = compared.archive.as_ref().map(|archive| archive.verdict);
+        let grounded = grounded(&second::reader::read(&file).expect("the file is readable"), GRINGO_LIMIT);
+        if let Some((found, _)) = &grounded {
+            assert_eq!(found, &compared.table, "{name}: gringo");
+        }
+        let time = grounded.map(|(_, time)| time);
+        let shown = [verdict, time].map(|time| table::limited(time, GRINGO_LIMIT));
+        let ratio = verdict.zip(time).map_or(String::new(), |(verdict, time)| table::ratio(time, verdict));
+        rows.push([&[name, table::thousands(compared.facts())], &shown[..], &[ratio]].concat());
+    }
+    table::print(&rows);
 }
 
 /// What both operations use of the stack, on an ordinary and on a dense file.

@@ -163,9 +163,8 @@ impl Passes<'_> {
             Record::Load { y, object, key, w, .. } => {
                 self.add(s(object), bit(w));
                 let from = self.to_read(i, s(object), self.table[s(object)] | bit(w));
-                let found = labels(from).fold(0, |all, m| {
-                    self.names[key as usize].iter().fold(all, |all, &n| all | self.table[h(m, n)])
-                });
+                let found = labels(from)
+                    .fold(0, |all, m| self.names[key as usize].iter().fold(all, |all, &n| all | self.table[h(m, n)]));
                 self.count.visits += (from != 0) as u64;
                 self.add(s(y), found);
             }

@@ -1,6 +1,6 @@
 //! What fills the rest of a course's file: records that are expensive to visit and move no runner.
 
-use super::course::{Course, DENSE, DEEP, FIRST, FRESH, FUNCTIONS, OPEN, PASSED, SINK};
+use super::course::{Course, DEEP, DENSE, FIRST, FRESH, FUNCTIONS, OPEN, PASSED, SINK};
 use second::generate::writer::Writer;
 
 #[derive(Clone, Copy, PartialEq, Eq, Debug)]

@@ -21,15 +21,8 @@ pub enum Shape {
     Longest,
 }
 
-pub const SHAPES: [Shape; 7] = [
-    Shape::Copies,
-    Shape::Properties,
-    Shape::Prototypes,
-    Shape::Throws,
-    Shape::Calls,
-    Shape::Returns,
-    Shape::Longest,
-];
+pub const SHAPES: [Shape; 7] =
+    [Shape::Copies, Shape::Properties, Shape::Prototypes, Shape::Throws, Shape::Calls, Shape::Returns, Shape::Longest];
 
 /// A full file with a course of the shape; whatever variables the shape has no use for are passed by copies.
 pub fn worst(shape: Shape, filler: Filler, watching: bool, seed: u64) -> Vec<u8> {
