@@ -5,6 +5,8 @@ pub mod clingo;
 pub mod compared;
 pub mod files;
 pub mod hand;
+pub mod mutate;
 pub mod passes;
+pub mod slowest;
 pub mod stack;
 pub mod table;

@@ -6,7 +6,7 @@ use bench::files::filler::{Filler, FILLERS};
 use bench::files::worst::{worst, Shape, SHAPES};
 use bench::files::{dense, ordinary::ordinary, LONGEST};
 use bench::stack::used_by;
-use bench::table;
+use bench::{slowest, table};
 use std::time::Duration;
 
 type Named = (String, Vec<u8>);
@@ -21,7 +21,7 @@ fn main() {
     section("Growth: ordinary files of rising size", limit, sizes);
     section("Dense files", limit, dense_files());
     section("Worst-case files", limit, worst_files());
-    section("Slowest files found by the search", limit, slowest());
+    section("Slowest files found by the search", limit, slowest::read());
     clingo();
     stack();
 }
@@ -58,22 +58,6 @@ fn worst_files() -> Vec<Named> {
         put(Shape::Longest, filler, true, 1);
         put(Shape::Longest, filler, false, 1);
     }
-    files
-}
-
-/// The files in `slowest/`, by name.
-fn slowest() -> Vec<Named> {
-    let folder = concat!(env!("CARGO_MANIFEST_DIR"), "/slowest");
-    let Ok(entries) = std::fs::read_dir(folder) else { return Vec::new() };
-    let mut files: Vec<Named> = entries
-        .map(|entry| entry.expect("the folder can be read").path())
-        .filter(|path| path.extension().is_some_and(|extension| extension == "bin"))
-        .map(|path| {
-            let name = path.file_stem().expect("a file has a name").to_string_lossy().into_owned();
-            (name, std::fs::read(path).expect("the file can be read"))
-        })
-        .collect();
-    files.sort();
     files
 }
 

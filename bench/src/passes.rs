@@ -2,7 +2,8 @@
 //! adds nothing.
 //!
 //! A record is left out of a pass where none of the rows it reads has grown since the pass before the last, which alters
-//! no table; what is not left out counts as a visit.
+//! no table. The work is one for each record of each pass, for the test whether to leave it out, and one for each row read
+//! by a record that is not left out: a measure that does not depend on the machine.
 
 use second::program::{Program, Record, Type, BAG};
 use second::rows::{bit, h, labels, p, s, t, ROWS};
@@ -11,7 +12,7 @@ use std::time::{Duration, Instant};
 #[derive(Clone, Copy, PartialEq, Eq, Debug, Default)]
 pub struct Count {
     pub passes: u64,
-    pub visits: u64,
+    pub work: u64,
 }
 
 struct Passes<'a> {
@@ -52,6 +53,7 @@ pub fn count(program: &Program, limit: Duration) -> Option<(Count, Vec<u64>)> {
         passes.count.passes += 1;
         passes.before = std::mem::take(&mut passes.now);
         passes.grew = false;
+        passes.count.work += records.len() as u64;
         passes.declared();
         for (i, &record) in records.iter().enumerate() {
             passes.record(i, record);
@@ -165,7 +167,7 @@ impl Passes<'_> {
                 let from = self.to_read(i, s(object), self.table[s(object)] | bit(w));
                 let found = labels(from)
                     .fold(0, |all, m| self.names[key as usize].iter().fold(all, |all, &n| all | self.table[h(m, n)]));
-                self.count.visits += (from != 0) as u64;
+                self.count.work += from.count_ones() as u64 * self.names[key as usize].len() as u64;
                 self.add(s(y), found);
             }
             Record::Store { object, key, value, .. } => {
@@ -184,7 +186,7 @@ impl Passes<'_> {
                 self.include(s(y), s(t));
                 let from = self.to_read(i, s(callee), self.table[s(callee)]);
                 let found = labels(from).fold(0, |all, m| all | self.table[h(m, 3)]);
-                self.count.visits += (from != 0) as u64;
+                self.count.work += from.count_ones() as u64;
                 self.add(p(l), found);
                 self.call(k, y, callee, t, args);
             }
@@ -196,7 +198,7 @@ impl Passes<'_> {
     }
 
     fn store(&mut self, object: u8, key: u8, value: u8) {
-        self.count.visits += 1;
+        self.count.work += self.table[s(object)].count_ones() as u64 * self.names[key as usize].len() as u64;
         for l in labels(self.table[s(object)]).filter(|&l| !self.program.is_built_in(l)) {
             for i in 0..self.names[key as usize].len() {
                 self.include(h(l, self.names[key as usize][i]), s(value));
@@ -211,8 +213,9 @@ impl Passes<'_> {
         if called & changed == 0 && !passed {
             return;
         }
-        self.count.visits += 1;
-        for f in labels(if passed { called } else { called & changed }) {
+        let entered = if passed { called } else { called & changed };
+        self.count.work += entered.count_ones() as u64 * if passed { 9 } else { 2 };
+        for f in labels(entered) {
             let function = self.program.functions[f as usize].expect("a function label has a function");
             if passed {
                 self.include(s(function.this), s(this));
@@ -231,7 +234,7 @@ impl Passes<'_> {
         let again = found != self.found[i] || self.recent(s(object));
         self.found[i] = found;
         let called = if again { found } else { found & (self.now.throws | self.before.throws) } & self.functions;
-        self.count.visits += (from | called != 0) as u64;
+        self.count.work += 2 * (from.count_ones() + called.count_ones()) as u64;
         for f in labels(called) {
             let function = self.program.functions[f as usize].expect("a function label has a function");
             self.include(s(function.this), s(object));

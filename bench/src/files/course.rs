@@ -102,10 +102,10 @@ impl Course {
         self.start.push(written(write));
     }
 
-    /// Those that run: functions, then labels 0 and 4, and last 2, which is on every function's chain.
+    /// Those that run: functions, then labels 0 and 4, and last 2, which is on every function's chain and so has no next.
     fn runners(&self) -> Vec<u8> {
         let functions = (FIRST..64).filter(|l| !self.plain.contains(l));
-        functions.chain([0, 4, 2]).collect()
+        functions.chain([MAKER, 0, 4, 2]).collect()
     }
 
     /// The file: declarations, what is so from the start, then the links from the last to the first among the filler.

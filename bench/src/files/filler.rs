@@ -10,7 +10,7 @@ pub enum Filler {
     Stores,
     Calls,
     News,
-    /// Returns, and calls that hand back what they return.
+    /// Returns, and calls that hand back what they return, about as many bytes of each.
     Returns,
     Throws,
     Prims,
@@ -49,14 +49,14 @@ fn record(course: &mut Course, filler: Filler, watching: bool) -> Vec<u8> {
     let mut w = Writer::new();
     let mut some = || if watching { course.r.pick(&course.passed) } else { course.r.pick(&[OPEN, FUNCTIONS]) };
     let (a, six) = (some(), [some(), some(), some(), some(), some(), some()]);
-    let object = if watching { course.r.pick(&[DENSE, SINK, a]) } else { OPEN };
+    let object = if watching { course.r.pick(&[SINK, SINK, DENSE, a]) } else { OPEN };
     match filler {
         Filler::Copies => w.copy(0, SINK, a),
         Filler::Loads => w.load(0, SINK, object, 128, FRESH),
         Filler::Stores => w.store(0, OPEN, PASSED, a),
         Filler::Calls => w.call(0, SINK, FUNCTIONS, a, six),
         Filler::News => w.new_object(0, SINK, FUNCTIONS, SINK, DEEP, six),
-        Filler::Returns if course.r.chance(1, 8) => w.call(0, SINK, FUNCTIONS, a, six),
+        Filler::Returns if course.r.chance(1, 5) => w.call(0, SINK, FUNCTIONS, a, six),
         Filler::Returns => w.give_back(uncalled(course), a),
         Filler::Throws => w.throw(0, a),
         Filler::Prims | Filler::Mixed => w.prim(0, object),

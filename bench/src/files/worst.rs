@@ -69,9 +69,9 @@ fn properties(course: &mut Course, thrown: usize) {
     }
 }
 
-/// Labels 63 down to 44 are made by functions 8 to 27, each with the one before as prototype, the first with the runner.
+/// Labels 63 down to 52 are made by functions 8 to 19, each with the one before as prototype, the first with the runner.
 fn prototypes(course: &mut Course) {
-    const LENGTH: u8 = 20;
+    const LENGTH: u8 = 12;
     course.plain = (64 - LENGTH..64).collect();
     course.closed = (FIRST..FIRST + LENGTH).collect();
     let (from, to) = course.step();
