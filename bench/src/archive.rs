@@ -6,24 +6,31 @@ use std::process::{Command, Stdio};
 use std::time::{Duration, Instant};
 
 /// What the archive made of a file.
-pub struct Measured {
-    pub verdict: Duration,
-    pub check: Duration,
+pub struct Verdict {
+    pub time: Duration,
     pub answer: Answer,
-    pub checked: Answer,
     pub table: Vec<u64>,
 }
 
-/// Measures the archive on a file by the program `measure` beside this one; none where it takes longer than the limit.
-pub fn measured(file: &[u8], limit: Duration) -> Option<Measured> {
+/// What the archive made of a finished table.
+pub struct Check {
+    pub time: Duration,
+    pub answer: Answer,
+}
+
+/// Measures the archive on a file, and on its finished table, by the program `measure` beside this one; no verdict, or nothing
+/// at all, where that takes longer than the limit.
+pub fn measured(file: &[u8], finished: &[u64], limit: Duration) -> (Option<Check>, Option<Verdict>) {
     let program = std::env::current_exe().expect("this program has a path").with_file_name("measure");
     let mut child = Command::new(program).stdin(Stdio::piped()).stdout(Stdio::piped()).spawn().expect("measure runs");
-    child.stdin.take().expect("it is piped").write_all(file).expect("measure reads");
+    let mut input: Vec<u8> = finished.iter().flat_map(|word| word.to_le_bytes()).collect();
+    input.extend(file);
+    child.stdin.take().expect("it is piped").write_all(&input).expect("measure reads");
     let mut output = child.stdout.take().expect("it is piped");
     let reading = std::thread::spawn(move || {
         let mut bytes = Vec::new();
         output.read_to_end(&mut bytes).expect("measure writes");
-        bytes
+        words(&bytes)
     });
     let start = Instant::now();
     while !reading.is_finished() {
@@ -34,16 +41,16 @@ pub fn measured(file: &[u8], limit: Duration) -> Option<Measured> {
         std::thread::sleep(Duration::from_millis(5));
     }
     child.wait().expect("it is a child of this program");
-    let bytes = reading.join().expect("reading does not fail");
-    let words: Vec<u64> =
-        bytes.chunks_exact(8).map(|word| u64::from_le_bytes(word.try_into().expect("8 bytes"))).collect();
-    (words.len() == 4 + TABLE_WORDS).then(|| Measured {
-        verdict: Duration::from_nanos(words[0]),
-        check: Duration::from_nanos(words[1]),
-        answer: unpack(words[2]),
-        checked: unpack(words[3]),
-        table: words[4..].to_vec(),
-    })
+    let words = reading.join().expect("reading does not fail");
+    let pair = |i: usize| (Duration::from_nanos(words[i]), unpack(words[i + 1]));
+    let check = (words.len() >= 2).then(|| pair(0)).map(|(time, answer)| Check { time, answer });
+    let verdict = (words.len() == 4 + TABLE_WORDS).then(|| pair(2));
+    (check, verdict.map(|(time, answer)| Verdict { time, answer, table: words[4..].to_vec() }))
+}
+
+/// The words that bytes in little-endian order stand for.
+pub fn words(bytes: &[u8]) -> Vec<u64> {
+    bytes.chunks_exact(8).map(|word| u64::from_le_bytes(word.try_into().expect("8 bytes"))).collect()
 }
 
 /// The shortest of many runs, as many as fit in the time but at least one.

@@ -1,6 +1,6 @@
 //! One file given to the archive and its opponents: first that all agree, then how long each takes.
 
-use crate::archive::{best, measured, Measured};
+use crate::archive::{best, measured};
 use crate::table::{limited, milliseconds, ratio, thousands};
 use crate::{files, hand, passes};
 use compare::Answer;
@@ -21,8 +21,9 @@ pub struct Compared {
     pub answer: Answer,
     pub table: Vec<u64>,
     pub passes: Option<u64>,
-    /// None where the archive took longer than the limit.
-    pub archive: Option<Measured>,
+    /// Times of the archive; none where they were over the limit.
+    pub verdict: Option<Duration>,
+    pub check: Option<Duration>,
     pub hand: Duration,
     pub second: Duration,
 }
@@ -36,15 +37,17 @@ pub fn compared(name: &str, file: &[u8], limit: Duration) -> Compared {
     if let Some((_, passed)) = &counted {
         assert_eq!(&table, passed, "{name}: hand-written solver and passes");
     }
-    let archive = measured(file, limit);
-    if let Some(archive) = &archive {
-        assert_eq!(answer, archive.answer, "{name}: answers of hand-written solver and archive");
-        assert_eq!(table, archive.table, "{name}: tables of hand-written solver and archive");
+    let (check, verdict) = measured(file, &table, limit);
+    if let Some(verdict) = &verdict {
+        assert_eq!(answer, verdict.answer, "{name}: answers of hand-written solver and archive");
+        assert_eq!(table, verdict.table, "{name}: tables of hand-written solver and archive");
+    }
+    if let Some(check) = &check {
         let expected = match answer {
             Answer::Leaks { label, .. } => Answer::Refused { number: 11, position: label },
             _ => Answer::Accepted,
         };
-        assert_eq!(archive.checked, expected, "{name}: check");
+        assert_eq!(check.answer, expected, "{name}: check");
     }
     let mut lent = vec![0; second::rows::ROWS];
     Compared {
@@ -54,7 +57,8 @@ pub fn compared(name: &str, file: &[u8], limit: Duration) -> Compared {
         answer,
         table,
         passes: counted.map(|(count, _)| count.passes),
-        archive,
+        verdict: verdict.map(|verdict| verdict.time),
+        check: check.map(|check| check.time),
         hand: best(TIME, || drop(black_box(hand::verdict(file)))),
         second: best(TIME, || drop(black_box(solver::verdict(file, &mut lent)))),
     }
@@ -75,23 +79,23 @@ impl Compared {
 
     /// The line of the table, in the order of the titles.
     pub fn line(&self, limit: Duration) -> Vec<String> {
-        let verdict = self.archive.as_ref().map(|archive| archive.verdict);
-        let check = self.archive.as_ref().map(|archive| archive.check);
-        let against =
-            |other| verdict.map_or_else(|| format!("over {}", ratio(limit, other)), |time| ratio(time, other));
+        let against = |time: Option<Duration>, other: Duration| match time {
+            Some(time) => ratio(time, other),
+            None => format!("over {}", ratio(limit, other)),
+        };
         vec![
             self.name.clone(),
             thousands(self.bytes as u64),
             thousands(self.records as u64),
             thousands(self.facts()),
             self.passes.map_or("not counted".to_string(), thousands),
-            limited(verdict, limit),
+            limited(self.verdict, limit),
             milliseconds(self.hand),
             milliseconds(self.second),
-            against(self.hand),
-            against(self.second),
-            check.map_or(String::new(), milliseconds),
-            check.map_or(String::new(), |time| ratio(time, self.hand)),
+            against(self.verdict, self.hand),
+            against(self.verdict, self.second),
+            limited(self.check, limit),
+            against(self.check, self.hand),
         ]
     }
 }

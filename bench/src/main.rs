@@ -3,8 +3,9 @@
 use bench::clingo::grounded;
 use bench::compared::{compared, Compared};
 use bench::files::filler::{Filler, FILLERS};
+use bench::files::ordinary::{ordinary, ordinary_over};
 use bench::files::worst::{worst, Shape, SHAPES};
-use bench::files::{dense, ordinary::ordinary, LONGEST};
+use bench::files::{dense, LONGEST};
 use bench::stack::used_by;
 use bench::{slowest, table};
 use std::time::Duration;
@@ -17,8 +18,11 @@ fn main() {
     let seconds = std::env::args().nth(1).map_or(10, |argument| argument.parse().expect("a number of seconds"));
     let limit = Duration::from_secs(seconds);
     section("Ordinary full files", limit, (1..=5).map(|seed| (format!("ordinary {seed}"), ordinary(LONGEST, seed))));
-    let sizes = [1, 2, 4, 8, 16, 32].into_iter().map(|size| (format!("ordinary, {size} kB"), ordinary(1024 * size, 6)));
-    section("Growth: ordinary files of rising size", limit, sizes);
+    let sizes = [1, 2, 4, 8, 16, 32];
+    let fixed = sizes.map(|size| (format!("{size} kB"), ordinary_over(20, 40, 1024 * size, 6)));
+    section("Growth: ordinary files over 20 labels and 40 variables", limit, fixed);
+    let rising = sizes.map(|size| (format!("{size} kB"), ordinary(1024 * size, 6)));
+    section("Growth: ordinary files, labels and variables rising with the size", limit, rising);
     section("Dense files", limit, dense_files());
     section("Worst-case files", limit, worst_files());
     section("Slowest files found by the search", limit, slowest::read());
@@ -70,14 +74,13 @@ fn clingo() {
     for (name, file) in files {
         eprintln!("{name}, gringo");
         let compared = compared(&name, &file, GRINGO_LIMIT);
-        let verdict = compared.archive.as_ref().map(|archive| archive.verdict);
         let grounded = grounded(&second::reader::read(&file).expect("the file is readable"), GRINGO_LIMIT);
         if let Some((found, _)) = &grounded {
             assert_eq!(found, &compared.table, "{name}: gringo");
         }
         let time = grounded.map(|(_, time)| time);
-        let shown = [verdict, time].map(|time| table::limited(time, GRINGO_LIMIT));
-        let ratio = verdict.zip(time).map_or(String::new(), |(verdict, time)| table::ratio(time, verdict));
+        let shown = [compared.verdict, time].map(|time| table::limited(time, GRINGO_LIMIT));
+        let ratio = compared.verdict.zip(time).map_or(String::new(), |(verdict, time)| table::ratio(time, verdict));
         rows.push([&[name, table::thousands(compared.facts())], &shown[..], &[ratio]].concat());
     }
     table::print(&rows);

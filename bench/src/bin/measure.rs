@@ -1,7 +1,7 @@
-//! Reads a file on standard input, times both operations of the archive on it, and writes words in little-endian order:
-//! nanoseconds of verdict and of check, the two answers, and the table.
+//! Reads a finished table and then a file on standard input and times both operations of the archive on them. Writes words in
+//! little-endian order: nanoseconds and answer of the check, the same of the verdict, and the table that the verdict left.
 
-use bench::archive::best;
+use bench::archive::{best, words};
 use compare::TABLE_WORDS;
 use std::io::{Read, Write};
 use std::time::Duration;
@@ -14,15 +14,21 @@ extern "C" {
 }
 
 fn main() {
-    let mut file = Vec::new();
-    std::io::stdin().read_to_end(&mut file).expect("standard input can be read");
-    let mut table = vec![0; TABLE_WORDS];
-    let (mut answer, mut checked) = (0, 0);
-    let verdict_time =
-        best(TIME, || answer = unsafe { verdict(file.as_ptr(), file.len(), table.as_mut_ptr(), table.len()) });
-    let check_time = best(TIME, || checked = unsafe { check(file.as_ptr(), file.len(), table.as_ptr(), table.len()) });
-    let mut words = vec![verdict_time.as_nanos() as u64, check_time.as_nanos() as u64, answer, checked];
-    words.extend(&table);
+    let mut input = Vec::new();
+    std::io::stdin().read_to_end(&mut input).expect("standard input can be read");
+    let (table, file) = input.split_at(8 * TABLE_WORDS);
+    let mut table = words(table);
+    let mut answer = 0;
+    // Any bytes and any table may be passed.
+    let time = best(TIME, || answer = unsafe { check(file.as_ptr(), file.len(), table.as_ptr(), table.len()) });
+    write(&[time.as_nanos() as u64, answer]);
+    let time = best(TIME, || answer = unsafe { verdict(file.as_ptr(), file.len(), table.as_mut_ptr(), table.len()) });
+    write(&[time.as_nanos() as u64, answer]);
+    write(&table);
+}
+
+fn write(words: &[u64]) {
     let bytes: Vec<u8> = words.iter().flat_map(|word| word.to_le_bytes()).collect();
-    std::io::stdout().write_all(&bytes).expect("standard output can be written");
+    let mut output = std::io::stdout();
+    output.write_all(&bytes).and_then(|()| output.flush()).expect("standard output can be written");
 }

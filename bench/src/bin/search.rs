@@ -8,6 +8,7 @@ use bench::archive::measured;
 use bench::files::filler::{Filler, FILLERS};
 use bench::files::worst::{worst, Shape, SHAPES};
 use bench::{mutate::mutated, passes, slowest};
+use compare::TABLE_WORDS;
 use second::prng::Prng;
 use second::reader::read;
 use std::time::{Duration, Instant};
@@ -52,7 +53,8 @@ fn starts(seed: u64) -> Vec<Vec<u8>> {
 }
 
 fn nanoseconds(file: &[u8]) -> u64 {
-    measured(file, LIMIT).map_or(LIMIT, |measured| measured.verdict).as_nanos() as u64
+    let (_, verdict) = measured(file, &[0; TABLE_WORDS], LIMIT);
+    verdict.map_or(LIMIT, |verdict| verdict.time).as_nanos() as u64
 }
 
 fn work(file: &[u8]) -> u64 {

@@ -17,9 +17,14 @@ struct Part {
 
 /// A readable file of `size` bytes or just below; labels and variables grow with it.
 pub fn ordinary(size: usize, seed: u64) -> Vec<u8> {
+    ordinary_over((size / 500).clamp(5, 59) as u8, (size / 120).clamp(8, 254), size, seed)
+}
+
+/// The same over so many labels and variables, whatever the size.
+pub fn ordinary_over(labels: u8, variables: usize, size: usize, seed: u64) -> Vec<u8> {
     let mut r = Prng::new(seed.wrapping_mul(37).wrapping_add(5));
     let mut w = Writer::new();
-    let parts = declare(&mut r, &mut w, (size / 500).clamp(5, 59) as u8, (size / 120).clamp(8, 254));
+    let parts = declare(&mut r, &mut w, labels, variables);
     for &l in parts[1].plain.iter().chain(&parts[1].functions) {
         w.forbid(l);
     }
