@@ -17,6 +17,10 @@ const GRINGO_LIMIT: Duration = Duration::from_secs(60);
 fn main() {
     let seconds = std::env::args().nth(1).map_or(10, |argument| argument.parse().expect("a number of seconds"));
     let limit = Duration::from_secs(seconds);
+    println!(
+        "# Results\n\nPrinted by `bench/run {seconds}` on {}. See README.md for what the columns are.\n",
+        processor()
+    );
     section("Ordinary full files", limit, (1..=5).map(|seed| (format!("ordinary {seed}"), ordinary(LONGEST, seed))));
     let sizes = [1, 2, 4, 8, 16, 32];
     let fixed = sizes.map(|size| (format!("{size} kB"), ordinary_over(20, 40, 1024 * size, 6)));
@@ -28,6 +32,13 @@ fn main() {
     section("Slowest files found by the search", limit, slowest::read());
     clingo();
     stack();
+}
+
+/// The name of the machine's processor.
+fn processor() -> String {
+    let about = std::fs::read_to_string("/proc/cpuinfo").unwrap_or_default();
+    let model = about.lines().find_map(|line| line.strip_prefix("model name")?.split_once(": "));
+    model.map_or("an unknown processor".to_string(), |(_, name)| name.to_string())
 }
 
 /// A table of files, after it is known that all solvers agree on them.

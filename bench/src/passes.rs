@@ -1,14 +1,14 @@
 //! Counts the passes that a file forces: every rule in the order of the file, on the table as it then stands, until a pass
 //! adds nothing.
 //!
-//! A record is left out of a pass where none of the rows it reads has grown since the pass before the last, which alters
+//! A record is left out of a pass where none of the rows it reads has grown in this pass or the one before, which alters
 //! no table. The work is one for each record of each pass, for the test whether to leave it out, and one for each row read
 //! by a record that is not left out: a measure that does not depend on the machine.
 
 mod records;
 
 use second::program::{Program, Record, Type};
-use second::rows::{bit, h, labels, p, s, t, ROWS};
+use second::rows::{bit, h, labels, p, s, ROWS};
 use std::time::{Duration, Instant};
 
 #[derive(Clone, Copy, PartialEq, Eq, Debug, Default)]
