@@ -6,7 +6,7 @@
 
 use bench::archive::measured;
 use bench::files::filler::{Filler, FILLERS};
-use bench::files::worst::{worst, Shape, SHAPES};
+use bench::files::worst::{worst, SHAPES};
 use bench::{mutate::mutated, passes, slowest};
 use compare::TABLE_WORDS;
 use second::prng::Prng;
@@ -44,12 +44,13 @@ fn show(start: Instant, lines: &[(u64, Vec<u8>)]) {
     println!("{:>5} s: {:?}", start.elapsed().as_secs(), lines.iter().map(|line| line.0).collect::<Vec<_>>());
 }
 
-/// The files of the last search and courses of every shape and filler.
+/// The files of the last search, and courses of every shape with every filler.
 fn starts(seed: u64) -> Vec<Vec<u8>> {
-    let found = slowest::read().into_iter().map(|(_, file)| file);
-    let shapes = SHAPES.into_iter().map(|shape| worst(shape, Filler::Mixed, true, seed));
-    let fillers = FILLERS.into_iter().map(|filler| worst(Shape::Longest, filler, true, seed));
-    found.chain(shapes).chain(fillers).collect()
+    let mut files: Vec<Vec<u8>> = slowest::read().into_iter().map(|(_, file)| file).collect();
+    for shape in SHAPES {
+        files.extend(FILLERS.into_iter().chain([Filler::Mixed]).map(|filler| worst(shape, filler, true, seed)));
+    }
+    files
 }
 
 fn nanoseconds(file: &[u8]) -> u64 {
