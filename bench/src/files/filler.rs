@@ -35,7 +35,6 @@ pub fn records(course: &mut Course, filler: Filler, watching: bool, room: usize)
     let mut all = Vec::new();
     let mut left = room;
     loop {
-        let filler = if filler == Filler::Mixed { course.r.pick(&FILLERS) } else { filler };
         let bytes = record(course, filler, watching);
         if bytes.len() > left {
             return all;
@@ -59,7 +58,11 @@ fn record(course: &mut Course, filler: Filler, watching: bool) -> Vec<u8> {
         Filler::Returns if course.r.chance(1, 5) => w.call(0, SINK, FUNCTIONS, a, six),
         Filler::Returns => w.give_back(uncalled(course), a),
         Filler::Throws => w.throw(0, a),
-        Filler::Prims | Filler::Mixed => w.prim(0, object),
+        Filler::Prims => w.prim(0, object),
+        Filler::Mixed => {
+            let one = course.r.pick(&FILLERS);
+            return record(course, one, watching);
+        }
     };
     w.bytes
 }
