@@ -68,6 +68,7 @@ fn worst_files() -> Vec<Named> {
         put(shape, Filler::Mixed, true, 1);
         put(shape, Filler::Mixed, true, 2);
     }
+    put(Shape::Properties, Filler::Loads, true, 1);
     put(Shape::Longest, Filler::Mixed, false, 1);
     for filler in FILLERS {
         put(Shape::Longest, filler, true, 1);

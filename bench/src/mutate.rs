@@ -3,6 +3,7 @@
 use crate::files::LONGEST;
 use second::prng::Prng;
 use second::reader::{body_length, read};
+use std::collections::HashMap;
 
 /// A file as its records.
 pub type Records = Vec<Vec<u8>>;
@@ -47,12 +48,15 @@ fn change(r: &mut Prng, records: &mut Records, lender: &Records) {
         3 => {
             let (first, last) = range(r, lender.len(), length);
             let lent: Records = lender[first..last].iter().filter(|record| record[0] >= 16).cloned().collect();
-            replace(records, from, &lent);
+            replace(records, from, &lent, |_| true);
         }
         4 => {
-            let record = r.pick(&records.iter().map(Vec::as_slice).collect::<Vec<_>>()).to_vec();
+            // Records that stand there more than once are filler: the links of a course differ from one another.
+            let mut times: HashMap<Vec<u8>, usize> = HashMap::new();
+            records.iter().for_each(|record| *times.entry(record.clone()).or_default() += 1);
+            let record = r.pick(&[&*records, lender])[r.below(records.len().min(lender.len()))].clone();
             if record[0] >= 16 {
-                replace(records, from, &vec![record; to - from]);
+                replace(records, from, &vec![record; to - from], |record| times[record] > 1);
             }
         }
         5 => (from..to).for_each(|at| alter(r, records, at)),
@@ -66,9 +70,9 @@ fn range(r: &mut Prng, all: usize, length: usize) -> (usize, usize) {
     (from, (from + length).min(all))
 }
 
-/// Puts statements in the place of those that stand there; declarations stay.
-fn replace(records: &mut Records, from: usize, with: &[Vec<u8>]) {
-    let statements = records.iter_mut().skip(from).filter(|record| record[0] >= 16);
+/// Puts statements in the place of those from there on that may go; declarations stay.
+fn replace(records: &mut Records, from: usize, with: &[Vec<u8>], may_go: impl Fn(&Vec<u8>) -> bool) {
+    let statements = records.iter_mut().skip(from).filter(|record| record[0] >= 16 && may_go(record));
     statements.zip(with).for_each(|(record, new)| record.clone_from(new));
 }
 
