@@ -18,8 +18,8 @@ use Rattle.rules.proofs.Find.{finds-word, finds-for}
 use Rattle.format.specs.Sheet.{builtIn}
 use Rattle.program.specs.Program.{Program, namesOf}
 use Rattle.analysis.specs.Rules.{looking, storing}
-use Rattle.solver.specs.Sets.{Gathered, Found, Listed}
-use Rattle.solver.proofs.Finds.{Way}
+use Rattle.tables.specs.Sets.{Gathered, Found, Listed}
+use Rattle.tables.proofs.Found.{Way}
 
 -- ---- a load
 

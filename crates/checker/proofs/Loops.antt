@@ -9,7 +9,7 @@ use Rattle.rules.specs.Round.{labels}
 use Rattle.rules.specs.Gap.{Finds}
 use Rattle.rules.proofs.Labels.{labels-none}
 use Rattle.rules.proofs.Find.{finds-over-none, finds-each-on, finds-none}
-use Rattle.solver.proofs.Loops.{labels-next}
+use Rattle.tables.proofs.Loops.{labels-next}
 use mathlib.Core.Bool.{Bool, true, false}
 
 -- `while l < 64 { .. l ..; l = next(w, l + 1); }`

@@ -14,9 +14,10 @@ use Rattle.rules.specs.Told.{Told}
 use Rattle.rules.specs.Gap.{grows, lower, Finds}
 use Rattle.rules.proofs.Find.{finds-word}
 use Rattle.program.specs.Program.{returnsOf}
-use Rattle.solver.specs.Sets.{Gathered}
-use Rattle.solver.specs.Desk.{desk}
-use Rattle.solver.proofs.Returns.{Back, returned-back, back-returned}
+use Rattle.tables.specs.Sets.{Gathered}
+use Rattle.statements.specs.Desk.{desk}
+use Rattle.lookups.specs.Kept.{Back}
+use Rattle.statements.proofs.Returns.{returned-back, back-returned}
 
 -- ---- one of the four words, and all
 

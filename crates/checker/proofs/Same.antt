@@ -21,8 +21,8 @@ use Rattle.program.specs.Program.{Program, Guest, isFunction, namesOf, statemen
 use Rattle.analysis.specs.Rules.{entering, calling, ruleOf, rules}
 use Rattle.analysis.proofs.Proper.{readable-proper}
 use Rattle.analysis.proofs.Returned.{readable-returned, returns-below}
-use Rattle.solver.specs.Desk.{returnsBy, deskOf, passRules, theGuest}
-use Rattle.solver.proofs.Returns.{returned-back, back-returned}
+use Rattle.statements.specs.Desk.{returnsBy, deskOf, passRules, theGuest}
+use Rattle.statements.proofs.Returns.{returned-back, back-returned}
 
 -- a program with this sheet
 abbrev by : Sheet → List (ℕ × say.Statement) → List Guest → Program

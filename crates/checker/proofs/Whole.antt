@@ -15,7 +15,7 @@ use Rattle.analysis.specs.Rules.{rules}
 use Rattle.analysis.proofs.Fit.{rules-fit}
 use Rattle.verdicts.specs.Check.{declaredWord, cleaned}
 use Rattle.verdicts.proofs.Cleaned.{cleaned-small}
-use Rattle.solver.specs.Desk.{desk, deskOf, passRules}
+use Rattle.statements.specs.Desk.{desk, deskOf, passRules}
 use Rattle.checker.specs.Seen.{seen}
 use Rattle.checker.proofs.Seen.{seen-cleaned, word-types}
 use Rattle.checker.proofs.Same.{pass-finds}

@@ -8,7 +8,7 @@ ghost use lib.Dec.{eqb};
 ghost use Rattle.rules.specs.Rule.{when};
 ghost use Rattle.rules.specs.Gap.{Finds};
 ghost use Rattle.analysis.specs.Rules.{parentsOf, guestChains};
-ghost use Rattle.solver.specs.Desk.{desk, chainBy, chainRules, theGuest};
+ghost use Rattle.statements.specs.Desk.{desk, chainBy, chainRules, theGuest};
 ghost use Rattle.checker.specs.Seen.{seen};
 use crate::gather::gather;
 use crate::row::look_give;

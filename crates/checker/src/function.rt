@@ -9,7 +9,7 @@ ghost use Rattle.rules.specs.Rule.{include, over, when, _also_};
 ghost use Rattle.rules.specs.Gap.{Finds};
 ghost use Rattle.program.specs.Program.{thisOf, formalsOf, returnsOf};
 ghost use Rattle.analysis.specs.Rules.{passing, entering, calling, making, converting};
-ghost use Rattle.solver.specs.Desk.{desk};
+ghost use Rattle.statements.specs.Desk.{desk};
 ghost use Rattle.checker.specs.Seen.{seen};
 use crate::gather::found;
 use crate::gather::gather;
@@ -18,7 +18,7 @@ use crate::row::look_include;
 use crate::row::look_word;
 use crate::rule::prototypes;
 use crate::view::row_at;
-use solver::names::wide;
+use tables::wide;
 
 // Each formal of f includes its argument.
 fn pass_arguments(

@@ -1,7 +1,7 @@
 // Unions of rows, collected in a word.
 ghost use Prim.Native.Nat.{_+_, _<_, _≤_};
 ghost use lib.ListN.{length};
-ghost use Rattle.solver.specs.Sets.{Gathered, Properties, Found};
+ghost use Rattle.tables.specs.Sets.{Gathered, Properties, Found};
 ghost use Rattle.checker.specs.Seen.{seen};
 use crate::view::row_at;
 

@@ -3,7 +3,7 @@ ghost use mathlib.Core.Path.{_≡_};
 ghost use Prim.Native.Nat.{_≤_};
 ghost use lib.ListN.{length};
 ghost use Rattle.rules.specs.Gap.{Finds};
-ghost use Rattle.solver.specs.Desk.{desk, guestRules};
+ghost use Rattle.statements.specs.Desk.{desk, guestRules};
 ghost use Rattle.checker.specs.Seen.{seen};
 use crate::function::call;
 use crate::function::make_new;

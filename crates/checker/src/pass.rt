@@ -5,10 +5,10 @@ ghost use lib.ListN.{length};
 ghost use Rattle.layout.specs.Layout.{bodyLength};
 ghost use Rattle.rules.specs.Gap.{Finds};
 ghost use Rattle.format.specs.Reading.{Readable};
-ghost use Rattle.solver.specs.Desk.{desk, hostRules};
+ghost use Rattle.statements.specs.Desk.{desk, hostRules};
 ghost use Rattle.checker.specs.Seen.{seen};
 use crate::record::look_record;
-use solver::names::wide;
+use tables::wide;
 
 // The length of the body of a record.
 fn length_of(kind: u8) -> usize

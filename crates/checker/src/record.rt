@@ -4,8 +4,8 @@ ghost use Prim.Native.Nat.{_≤_};
 ghost use mathlib.Core.Path.{_≡_};
 ghost use lib.ListN.{length};
 ghost use Rattle.rules.specs.Gap.{Finds};
-ghost use Rattle.solver.specs.Desk.{desk, recordRule};
-ghost use Rattle.solver.specs.Range.{InRange};
+ghost use Rattle.statements.specs.Desk.{desk, recordRule};
+ghost use Rattle.statements.specs.Range.{InRange};
 ghost use Rattle.checker.specs.Seen.{seen};
 use crate::function::call;
 use crate::function::convert;
@@ -17,7 +17,7 @@ use crate::rule::store;
 use rows::Label;
 use rows::Name;
 use rows::Var;
-use solver::names::wide;
+use tables::wide;
 
 // 5: variable v, owner scope, name: S(v) = H(0,n), where it has a name.
 fn variable_record(t: &[u64], d: u64, body: &[u8], low: usize) -> usize

@@ -9,15 +9,15 @@ ghost use Rattle.rules.specs.Rule.{include, each, over, when};
 ghost use Rattle.rules.specs.Round.{labels};
 ghost use Rattle.rules.specs.Gap.{Finds};
 ghost use Rattle.analysis.specs.Rules.{loading, storing};
-ghost use Rattle.solver.specs.Desk.{desk};
-ghost use Rattle.solver.specs.Range.{Key};
+ghost use Rattle.statements.specs.Desk.{desk};
+ghost use Rattle.statements.specs.Range.{Key};
 ghost use Rattle.checker.specs.Seen.{seen};
 use crate::gather::found;
 use crate::row::look_give;
 use crate::row::look_names;
 use crate::row::look_word;
 use crate::view::row_at;
-use solver::names::names_of;
+use statements::names::names_of;
 
 // 17: load y, object x, key, w.
 pub fn load(

@@ -6,7 +6,7 @@ ghost use Prim.Native.Nat.{_^_, _<_, _≤_};
 ghost use lib.ListN.{getD, length};
 ghost use lib.Dec.{eqb};
 ghost use Rattle.words.specs.Words.{union};
-ghost use Rattle.solver.specs.Desk.{desk};
+ghost use Rattle.statements.specs.Desk.{desk};
 ghost use Rattle.verdicts.specs.Check.{declaredWord};
 ghost use Rattle.checker.specs.Seen.{seen};
 

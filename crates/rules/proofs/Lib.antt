@@ -8,6 +8,7 @@ pub mod Round
 pub mod Least
 pub mod Derive
 pub mod Sweep
+pub mod Resumes
 pub mod Loop
 pub mod Gap
 pub mod Find

@@ -15,7 +15,7 @@ use Rattle.rules.specs.Table.{Table, Small}
 use Rattle.rules.specs.Rule.{Rule, each, over, both, every, chosen}
 use Rattle.rules.specs.Told.{Closed}
 use Rattle.rules.specs.Round.{labels}
-use Rattle.rules.specs.Sweep.{Sweeps}
+use Rattle.rules.specs.Sweep.{Heeds, Sweeps}
 use Rattle.rules.proofs.Labels.{label-on, on-label, labels-none, labels-on, labels-off, chosen-none, chosen-on, chosen-off}
 use Rattle.rules.proofs.Table.{has-label}
 use Rattle.rules.proofs.Sweep.{sweeps-none, sweeps-both, sweeps-for}
@@ -28,13 +28,13 @@ over-none = sweeps-for (λ v w c. tt) (λ c x m. absurd (List·Memᴰ·not-nil m
 -- one number more, at the end of the list
 pub over-next : {L : ℕ} {xs : List ℕ} {k : ℕ → Rule} {t u v : Table} {a b : Bool} (x : ℕ)
     → Sweeps L (over xs k) t u a → Sweeps L (k x) u v b → Sweeps L (over (xs ++ (x ∷ [])) k) t v (a || b)
-over-next {L} {xs} {k} {t} x first second =
+over-next {L} {xs} {k} {t} {u} {v} x first second =
     sweeps-for (λ y w c. (λ z m. c z (Memᴰ·append-left (x ∷ []) m), c x (Memᴰ·append-right xs (List·Memᴰ·head refl))))
     (λ c z m. go c z (List·Memᴰ·append-cases xs m)) (sweeps-both first second)
   where
-    go : Closed L t (both (over xs k) (k x)) → (z : ℕ) → List·Memᴰ z xs ⊎ List·Memᴰ z (x ∷ []) → Closed L t (k z)
+    go : Heeds L t v (both (over xs k) (k x)) → (z : ℕ) → List·Memᴰ z xs ⊎ List·Memᴰ z (x ∷ []) → Heeds L t v (k z)
     go c z (inl m) = c .0 z m
-    go c z (inr m) = subst (λ (n : ℕ). Closed L t (k n)) (sym (List·Memᴰ·eq-of-singleton m)) (c .1)
+    go c z (inr m) = subst (λ (n : ℕ). Heeds L t v (k n)) (sym (List·Memᴰ·eq-of-singleton m)) (c .1)
 
 -- the order and repetitions of the list do not matter
 pub over-same : {L : ℕ} {xs ys : List ℕ} {k : ℕ → Rule} {t u : Table} {grew : Bool} → ((x : ℕ) → List·Memᴰ x xs → List·Memᴰ x ys)
@@ -96,10 +96,14 @@ pub append-closed : (L : ℕ) (t : Table) (ps qs : List Rule) → Closed L t (ev
 append-closed L t [] qs c = (tt, c)
 append-closed L t (p ∷ ps) qs c = let r = append-closed L t ps qs (c .1) in ((c .0, r .0), r .1)
 
+pub heeds-append : (L : ℕ) (t u : Table) (ps qs : List Rule) → Heeds L t u (every ps) → Heeds L t u (every qs) → Heeds L t u (every (ps ++ qs))
+heeds-append L t u [] qs c d = d
+heeds-append L t u (p ∷ ps) qs c d = (c .0, heeds-append L t u ps qs (c .1) d)
+
 pub every-append : {L : ℕ} {t u v : Table} {a b : Bool} (ps qs : List Rule) → Sweeps L (every ps) t u a → Sweeps L (every qs) u v b
     → Sweeps L (every (ps ++ qs)) t v (a || b)
-every-append {L} {t} ps qs first second =
-    sweeps-for (λ v w c. append-closed L v ps qs c) (λ c. closed-append L t ps qs (c .0) (c .1)) (sweeps-both first second)
+every-append {L} {t} {u} {v} ps qs first second =
+    sweeps-for (λ x w c. append-closed L x ps qs c) (λ c. heeds-append L t v ps qs (c .0) (c .1)) (sweeps-both first second)
 
 -- one rule more, at the end of the list
 pub every-next : {L : ℕ} {q : Rule} {t u v : Table} {a b : Bool} (ps : List Rule) → Sweeps L (every ps) t u a → Sweeps L q u v b

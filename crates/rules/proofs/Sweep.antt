@@ -11,14 +11,14 @@ use lib.Pow.{pow-lt}
 use Rattle.words.proofs.Bits.{On, on-single, single-only}
 use Rattle.rows.specs.Row.{Row, number, rowCount}
 use Rattle.rules.specs.Table.{Table, Has, Within, Shaped, facts}
-use Rattle.rules.specs.Rule.{Rule, none, give, include, both, when}
+use Rattle.rules.specs.Rule.{Rule, none, give, include, each, over, both, when}
 use Rattle.rules.specs.Told.{Told, Closed, Fits}
 use Rattle.rules.specs.Round.{join, leastAbove}
 use Rattle.rules.specs.Gap.{grows}
-use Rattle.rules.specs.Sweep.{Reaches, Sweeps}
+use Rattle.rules.specs.Sweep.{Reaches, Heeds, Draws, Sweeps}
 use Rattle.rules.proofs.Table.{facts-room, facts-within, facts-more}
-use Rattle.rules.proofs.Told.{told-closed, told-within}
-use Rattle.rules.proofs.Join.{join-length, join-keeps, join-other, join-row-zero, has-join, join-small, not-grown, not-grown-same, grown-differs}
+use Rattle.rules.proofs.Told.{told-within}
+use Rattle.rules.proofs.Join.{join-length, join-keeps, join-other, join-row-zero, has-join, join-tells, join-small, not-grown-same, grown-differs}
 use Rattle.rules.proofs.Least.{least-only}
 
 -- ---- what is reached
@@ -60,28 +60,89 @@ reaches-facts {L} {p} {t} {u} a = facts-within L t u (sym (a .same-length)) (a .
 pub reaches-least : {L : ℕ} {p : Rule} {t u : Table} → Fits L p → Shaped L t → Reaches L p t u → Closed L u p → u ≡ leastAbove L p t
 reaches-least {L} {p} {t} {u} fits s a c = least-only L p fits t u s (a .same-length) (a .small (s .small)) (a .adds) c (a .within)
 
+-- ---- what is told and held
+
+pub heeds-closed : (L : ℕ) (t : Table) (p : Rule) → Heeds L t t p → Closed L t p
+heeds-closed L t none h = tt
+heeds-closed L t (give y m) h = h
+heeds-closed L t (include y x) h = h
+heeds-closed L t (each x k) h = λ m i. heeds-closed L t (k m) (h m i)
+heeds-closed L t (over xs k) h = λ x i. heeds-closed L t (k x) (h x i)
+heeds-closed L t (both p q) h = (heeds-closed L t p (h .0), heeds-closed L t q (h .1))
+
+pub closed-heeds : (L : ℕ) (t : Table) (p : Rule) → Closed L t p → Heeds L t t p
+closed-heeds L t none h = tt
+closed-heeds L t (give y m) h = h
+closed-heeds L t (include y x) h = h
+closed-heeds L t (each x k) h = λ m i. closed-heeds L t (k m) (h m i)
+closed-heeds L t (over xs k) h = λ x i. closed-heeds L t (k x) (h x i)
+closed-heeds L t (both p q) h = (closed-heeds L t p (h .0), closed-heeds L t q (h .1))
+
+-- fewer premises, more conclusions
+pub heeds-mono : (L : ℕ) (s t u v : Table) (p : Rule) → Within s t → Within u v → Heeds L t u p → Heeds L s v p
+heeds-mono L s t u v none a b h = tt
+heeds-mono L s t u v (give y m) a b h = λ z. b (number L y) m (h z)
+heeds-mono L s t u v (include y x) a b h = λ z l i. b (number L y) l (h z l (a (number L x) l i))
+heeds-mono L s t u v (each x k) a b h = λ m i. heeds-mono L s t u v (k m) a b (h m (a (number L x) m i))
+heeds-mono L s t u v (over xs k) a b h = λ x i. heeds-mono L s t u v (k x) a b (h x i)
+heeds-mono L s t u v (both p q) a b h = (heeds-mono L s t u v p a b (h .0), heeds-mono L s t u v q a b (h .1))
+
+pub draws-mono : (L : ℕ) (s u v : Table) (p : Rule) → Within u v → Draws L s u p → Draws L s v p
+draws-mono L s u v none b h = tt
+draws-mono L s u v (give y m) b h = tt
+draws-mono L s u v (include y x) b h = λ z l i. b (number L y) l (h z l i)
+draws-mono L s u v (each x k) b h = λ m i. draws-mono L s u v (k m) b (h m i)
+draws-mono L s u v (over xs k) b h = λ x i. draws-mono L s u v (k x) b (h x i)
+draws-mono L s u v (both p q) b h = (draws-mono L s u v p b (h .0), draws-mono L s u v q b (h .1))
+
+pub heeds-draws : (L : ℕ) (t u : Table) (p : Rule) → Heeds L t u p → Draws L t u p
+heeds-draws L t u none h = tt
+heeds-draws L t u (give y m) h = tt
+heeds-draws L t u (include y x) h = h
+heeds-draws L t u (each x k) h = λ m i. heeds-draws L t u (k m) (h m i)
+heeds-draws L t u (over xs k) h = λ x i. heeds-draws L t u (k x) (h x i)
+heeds-draws L t u (both p q) h = (heeds-draws L t u p (h .0), heeds-draws L t u q (h .1))
+
+-- a table without facts has no premises
+pub draws-nothing : (L : ℕ) (t u : Table) (p : Rule) → ((r l : ℕ) → Has t r l → ⊥) → Draws L t u p
+draws-nothing L t u none e = tt
+draws-nothing L t u (give y m) e = tt
+draws-nothing L t u (include y x) e = λ z l i. absurd (e (number L x) l i)
+draws-nothing L t u (each x k) e = λ m i. absurd (e (number L x) m i)
+draws-nothing L t u (over xs k) e = λ x i. draws-nothing L t u (k x) e
+draws-nothing L t u (both p q) e = (draws-nothing L t u p e, draws-nothing L t u q e)
+
+-- what is told is held
+pub told-heeds : (L : ℕ) (t u : Table) (p : Rule) → ((r l : ℕ) → Told L t p r l → Has u r l) → Heeds L t u p
+told-heeds L t u none f = tt
+told-heeds L t u (give y m) f = λ z. f (number L y) m (z, refl, refl)
+told-heeds L t u (include y x) f = λ z l i. f (number L y) l (z, refl, i)
+told-heeds L t u (each x k) f = λ m i. told-heeds L t u (k m) (λ r l g. f r l (m, i, g))
+told-heeds L t u (over xs k) f = λ x i. told-heeds L t u (k x) (λ r l g. f r l (x, i, g))
+told-heeds L t u (both p q) f = (told-heeds L t u p (λ r l g. f r l (inl g)), told-heeds L t u q (λ r l g. f r l (inr g)))
+
 -- ---- a sweep
 
 not-true : {A : Type 0} → false ≡ true → A
 not-true e = let z : _≡_ {A = ℕ} 0 1 = cc in absurd (omega arith)
 
 pub sweeps-none : {L : ℕ} {t : Table} → Sweeps L none t t false
-sweeps-none = record { reaches = reaches-itself; still = λ e. refl; closed = λ e. tt; more = not-true }
+sweeps-none = record { reaches = reaches-itself; heeds = tt; still = λ e. refl; more = not-true }
 
--- for a rule that is as good: its closed tables above t are closed for the first, and t is closed for it where t is for the first
+-- for a rule that is as good: its closed tables above t are closed for the first, and what it says of t the first says too
 pub sweeps-for : {L : ℕ} {p q : Rule} {t u : Table} {grew : Bool} → ((v : Table) → Within t v → Closed L v q → Closed L v p)
-    → (Closed L t p → Closed L t q) → Sweeps L p t u grew → Sweeps L q t u grew
-sweeps-for f g s = record { reaches = reaches-for f (s .reaches); still = s .still; closed = λ e. g (s .closed e); more = s .more }
+    → (Heeds L t u p → Heeds L t u q) → Sweeps L p t u grew → Sweeps L q t u grew
+sweeps-for f g s = record { reaches = reaches-for f (s .reaches); heeds = g (s .heeds); still = s .still; more = s .more }
 
 -- for a table and an answer that are equal to these
 pub sweeps-equal : {L : ℕ} {p : Rule} {t u v : Table} {a b : Bool} → v ≡ u → b ≡ a → Sweeps L p t u a → Sweeps L p t v b
 sweeps-equal e d s = rw (e, d) s
 
-neither : (a b : Bool) → a || b ≡ false → (a ≡ false) × (b ≡ false)
+pub neither : (a b : Bool) → a || b ≡ false → (a ≡ false) × (b ≡ false)
 neither true b e = not-true (sym e)
 neither false b e = (refl, e)
 
-either : (a b : Bool) → a || b ≡ true → (a ≡ true) ⊎ (b ≡ true)
+pub either : (a b : Bool) → a || b ≡ true → (a ≡ true) ⊎ (b ≡ true)
 either true b e = inl refl
 either false b e = inr e
 
@@ -90,9 +151,11 @@ pub sweeps-both : {L : ℕ} {p q : Rule} {t u v : Table} {a b : Bool} → Sweeps
 sweeps-both {L} {p} {q} {t} {u} {v} {a} {b} first second =
     record {
       reaches = reaches-on (reaches-for (λ x w c. c .0) (first .reaches)) (reaches-for (λ x w c. c .1) (second .reaches));
+      heeds = (
+        heeds-mono L t t u v p (λ r l h. h) (second .reaches .adds) (first .heeds),
+        heeds-mono L t u v v q (first .reaches .adds) (λ r l h. h) (second .heeds),
+      );
       still = λ e. let n = neither a b e in second .still (n .1) ∙ first .still (n .0);
-      closed = λ e. let n = neither a b e in
-          (first .closed (n .0), subst (λ (x : Table). Closed L x q) (first .still (n .0)) (second .closed (n .1)));
       more = λ e. more (either a b e);
     }
   where
@@ -114,10 +177,6 @@ when-on b e s = rw e s
 
 pub when-off : {L : ℕ} {t : Table} (p : Rule) (b : Bool) → b ≡ false → Sweeps L (when b p) t t false
 when-off p b e = rw e sweeps-none
-
--- a rule for which the table is closed may be passed over
-pub sweeps-skip : {L : ℕ} {p : Rule} {t : Table} → Closed L t p → Sweeps L p t t false
-sweeps-skip c = sweeps-for (λ v w d. tt) (λ d. c) sweeps-none
 
 -- ---- one store
 
@@ -146,8 +205,9 @@ sweeps-join L p y w t s i h all only =
     let reached = reaches-join L p y w t i h all in
     record {
       reaches = reached;
+      heeds = told-heeds L t (join y w t) p (λ r l g. let o = only r l g in
+          rw (o .1) (join-tells y w t (o .0) (omega (arith, s .long)) l (o .2)));
       still = λ e. not-grown-same y w t e;
-      closed = λ e. told-closed L t p (λ r l g. let o = only r l g in rw (o .1) (not-grown y w t (o .0) e l (o .2)));
       more = λ e.
           facts-more L t (join y w t) (sym (join-length y w t)) (s .small) (join-small L y w t h (s .small)) (join-keeps y w t)
           (reached .beyond) (grown-differs y w t (omega (arith, s .long)) e);
@@ -176,7 +236,7 @@ include-rows y x z w e d s = sweeps-for (λ v i c. rw (e, d) c) (λ c. rw (← e
 -- ---- sweeps until one adds nothing
 
 pub sweeps-closed : {L : ℕ} {p : Rule} {t u : Table} {grew : Bool} → Sweeps L p t u grew → grew ≡ false → Closed L u p
-sweeps-closed {L} {p} s e = subst (λ (x : Table). Closed L x p) (sym (s .still e)) (s .closed e)
+sweeps-closed {L} {p} {t} {u} s e = heeds-closed L u p (subst (λ (x : Table). Heeds L x u p) (sym (s .still e)) (s .heeds))
 
 -- how far the loop `while again { again = sweep(t); }` has come from t to u
 pub record Repeats (L : ℕ) (p : Rule) (t u : Table) (again : Bool) : Type 0 where

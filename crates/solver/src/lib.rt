@@ -11,15 +11,7 @@ use crate::pass::settle;
 use crate::table::clear;
 use sheet::Sheet;
 
-mod chain;
-mod function;
-mod gather;
-mod guest;
-pub mod names;
 mod pass;
-mod record;
-mod rule;
-mod store;
 pub mod table;
 
 // The least table of the file, whose declarations are in the sheet; what stood in the rows counts for nothing, words beyond them stay.

@@ -1,31 +1,49 @@
-// A pass: every rule of the file once, on the table as it then stands; and passes until one adds nothing.
+// A pass: every rule of the file once, with what was drawn before passed over; and passes until one adds nothing.
 ghost use mathlib.Core.Path.{_≡_};
-ghost use Prim.Native.Nat.{_≤_};
-ghost use lib.ListN.{length};
-ghost use Rattle.rules.specs.Sweep.{Sweeps};
+ghost use mathlib.Core.List.{List};
+ghost use Prim.Native.Nat.{ℕ, _<_, _≤_};
+ghost use lib.ListN.{length, getD};
+ghost use Rattle.words.specs.Words.{bit};
+ghost use Rattle.rules.specs.Table.{Table, Within};
+ghost use Rattle.rules.specs.Sweep.{Resumes};
 ghost use Rattle.rules.specs.Round.{leastAbove};
 ghost use Rattle.format.specs.Reading.{readFile, Readable};
-ghost use Rattle.program.specs.Program.{programOf};
+ghost use Rattle.program.specs.Program.{Program, programOf};
 ghost use Rattle.analysis.specs.Rules.{rules};
-ghost use Rattle.solver.specs.Desk.{desk, deskOf, hostRules, passRules};
-use crate::chain::chains;
-use crate::chain::guest_chain;
-use crate::guest::guest;
-use crate::names::wide;
-use crate::record::statement;
+ghost use Rattle.lookups.specs.Kept.{Stirred, Part};
+ghost use Rattle.statements.specs.Desk.{desk, deskOf, hostRules, passRules};
+ghost use Rattle.statements.specs.View.{Laid, View};
+use lookups::keep::renew_chains;
+use lookups::keep::renew_handed;
+use lookups::keep::renew_methods;
+use lookups::look::stirred_labels;
+use lookups::note::note;
+use statements::chain::chains;
+use statements::chain::guest_chain;
+use statements::guest::guest;
+use statements::names::name_classes;
+use statements::record::statement;
+use tables::wide;
 
 // The rules of the records, in the order of the file.
-fn host<'a>(
+fn host(
     t: &mut [u64],
     file: &[u8],
-    types: &'a [u8; 64],
-    flags: &'a [u8; 64],
-    formals: &'a [u8; 448],
-    masks: &'a [u8; 32],
-    returned: &'a [u64; 256],
+    functions: u64,
+    flags: &[u8; 64],
+    formals: &[u8; 448],
+    classes: &[u64; 8],
+    last: &[u64; 38],
+    chains: &[u64; 256],
+    fresh: &[u64; 256],
+    methods: &[u64; 256],
+    added: &[u64; 256],
+    handed: &[u64; 64],
+    stirred: u64,
+    stale: u64,
 ) -> bool
-    requires { ⌜ (2432 ≤ length (now t)) × Readable 64 (now file) × (length (now formals) ≡ 448) ⌝ }
-    ensures { λ r. ⌜ Sweeps 64 (hostRules (desk (now (types .entry)) (now (flags .entry)) (now (formals .entry)) (now (masks .entry)) (now (returned .entry))) (now (file .entry))) (now (t .entry)) (now (t .exit)) r ⌝ }
+    requires { ⌜ (2432 ≤ length (now t)) × Readable 64 (now file) × (length (now formals) ≡ 448) × (length (now handed) ≡ 64) × Stirred (now last) stirred × Part 256 (now fresh) (now chains) ⌝ }
+    ensures { λ r. ⌜ ((p : Program) (returned : List ℕ) (old new : Table) → Laid p functions (now (flags .entry)) (now (formals .entry)) (now (classes .entry)) returned → View old new returned (now (last .entry)) (now (chains .entry)) (now (fresh .entry)) (now (methods .entry)) (now (added .entry)) (now (handed .entry)) stirred stale → Within new (now (t .entry)) → Resumes 64 (hostRules p (now (file .entry))) old new (now (t .entry)) (now (t .exit)) r) ⌝ }
 {
     let lengths = layout::lengths();
     let mut grew = false;
@@ -35,11 +53,18 @@ fn host<'a>(
         let n = wide(lengths[wide(kind)]);
         let more = statement(
             t,
-            types,
+            functions,
             flags,
             formals,
-            masks,
-            returned,
+            classes,
+            last,
+            chains,
+            fresh,
+            methods,
+            added,
+            handed,
+            stirred,
+            stale,
             kind,
             &file[at + 1..at + 1 + n],
         );
@@ -50,26 +75,78 @@ fn host<'a>(
 }
 
 // Every rule once.
-fn pass<'a>(
+fn pass(
     t: &mut [u64],
     file: &[u8],
-    types: &'a [u8; 64],
-    flags: &'a [u8; 64],
-    formals: &'a [u8; 448],
-    masks: &'a [u8; 32],
-    returned: &'a [u64; 256],
+    types: &[u8; 64],
+    functions: u64,
+    flags: &[u8; 64],
+    formals: &[u8; 448],
+    classes: &[u64; 8],
+    last: &[u64; 38],
+    chain_words: &[u64; 256],
+    fresh: &[u64; 256],
+    methods: &[u64; 256],
+    added: &[u64; 256],
+    handed: &[u64; 64],
+    stirred: u64,
+    stale: u64,
 ) -> bool
-    requires { ⌜ (2432 ≤ length (now t)) × Readable 64 (now file) × (length (now formals) ≡ 448) ⌝ }
-    ensures { λ r. ⌜ Sweeps 64 (passRules (desk (now (types .entry)) (now (flags .entry)) (now (formals .entry)) (now (masks .entry)) (now (returned .entry))) (now (file .entry))) (now (t .entry)) (now (t .exit)) r ⌝ }
+    requires { ⌜ (2432 ≤ length (now t)) × Readable 64 (now file) × (length (now formals) ≡ 448) × (length (now handed) ≡ 64) × Stirred (now last) stirred × Part 256 (now fresh) (now «chain_words») ⌝ }
+    ensures { λ r. ⌜ ((p : Program) (returned : List ℕ) (old new : Table) → p .sheet .types ≡ now (types .entry) → Laid p functions (now (flags .entry)) (now (formals .entry)) (now (classes .entry)) returned → View old new returned (now (last .entry)) (now («chain_words» .entry)) (now (fresh .entry)) (now (methods .entry)) (now (added .entry)) (now (handed .entry)) stirred stale → Within new (now (t .entry)) → Resumes 64 (passRules p (now (file .entry))) old new (now (t .entry)) (now (t .exit)) r) ⌝ }
 {
-    let a = chains(t, types);
+    let a = chains(t, last, types);
     let b = guest_chain(t);
-    let c = guest(t, types, flags, formals, masks, returned);
-    let d = host(t, file, types, flags, formals, masks, returned);
+    let c = guest(
+        t,
+        functions,
+        flags,
+        formals,
+        classes,
+        last,
+        chain_words,
+        fresh,
+        handed,
+        stirred,
+        stale,
+    );
+    let d = host(
+        t,
+        file,
+        functions,
+        flags,
+        formals,
+        classes,
+        last,
+        chain_words,
+        fresh,
+        methods,
+        added,
+        handed,
+        stirred,
+        stale,
+    );
     a | (b | (c | d))
 }
 
-// Passes until one adds nothing: the least table above what stood there.
+// The labels of functions.
+fn function_labels(types: &[u8; 64]) -> u64
+    ensures { λ r. ⌜ ((f : ℕ) → bit r f ≡ 1 → (f < 64) × (getD (now (types .entry)) f 0 ≡ 2)) ⌝ }
+    ensures { λ r. ⌜ ((f : ℕ) → f < 64 → getD (now (types .entry)) f 0 ≡ 2 → bit r f ≡ 1) ⌝ }
+{
+    let mut all: u64 = 0;
+    let mut l: usize = 0;
+    while l < 64 {
+        if types[l] == 2 {
+            all = words::join(all, words::single(l));
+        }
+        l += 1;
+    }
+    all
+}
+
+// Passes until one adds nothing: the least table above one without facts. Between passes the rows that grew are noted, and what the rules look up is
+// brought up to date.
 pub fn settle<'a>(
     t: &mut [u64],
     file: &[u8],
@@ -79,11 +156,51 @@ pub fn settle<'a>(
     masks: &'a [u8; 32],
     returned: &'a [u64; 256],
 )
-    requires { ⌜ (2432 ≤ length (now t)) × Readable 64 (now file) × (desk (now types) (now flags) (now formals) (now masks) (now returned) ≡ deskOf (readFile 64 (now file) .sheet)) ⌝ }
+    requires { ⌜ (2432 ≤ length (now t)) × Readable 64 (now file) × (desk (now types) (now flags) (now formals) (now masks) (now returned) ≡ deskOf (readFile 64 (now file) .sheet)) × ((r : ℕ) → r < 2432 → getD (now t) r 0 ≡ 0) ⌝ }
     ensures { λ _. ⌜ now (t .exit) ≡ leastAbove 64 (rules 64 (programOf (readFile 64 (now (file .entry))))) (now (t .entry)) ⌝ }
 {
+    let functions = function_labels(types);
+    let mut classes = [0u64; 8];
+    name_classes(masks, &mut classes);
+    let mut low = [0u8; 2048];
+    let mut high = [0u8; 384];
+    let mut last = [0u64; 38];
+    let mut chain_words = [0u64; 256];
+    let mut fresh = [0u64; 256];
+    let mut methods = [0u64; 256];
+    let mut added = [0u64; 256];
+    let mut handed = [0u64; 64];
     let mut again = true;
     while again {
-        again = pass(t, file, types, flags, formals, masks, returned);
+        let stirred = stirred_labels(&last);
+        renew_chains(t, &last, &mut chain_words, &mut fresh);
+        renew_methods(
+            t,
+            &last,
+            &chain_words,
+            &fresh,
+            stirred,
+            &mut methods,
+            &mut added,
+        );
+        let stale = renew_handed(t, returned, &last, &mut handed);
+        again = pass(
+            t,
+            file,
+            types,
+            functions,
+            flags,
+            formals,
+            &classes,
+            &last,
+            &chain_words,
+            &fresh,
+            &methods,
+            &added,
+            &handed,
+            stirred,
+            stale,
+        );
+        note(t, &mut low, &mut high, &mut last);
     }
 }

@@ -6,9 +6,10 @@ use Prim.Native.Nat.{ℕ, zero, suc, _/_, _%_, _^_, _≤_, _<_}
 use native.Mathlib.Decide.{ℕ-discrete, decLt}
 use native.Mathlib.Nat.{div-eq-of-lt, le-trans}
 use native.Mathlib.Omega.{arith}
+use lib.Bits.{bitAnd}
 use lib.Pow.{pow-mono}
-use Rattle.words.specs.Words.{bit, union, countBelow}
-use Rattle.words.proofs.Laws.{bit-small, bit-union, bit-pow-same, bit-pow-other, bit-zero, ext, union-lt, same-union, count-mono, count-more}
+use Rattle.words.specs.Words.{bit, union, difference, countBelow}
+use Rattle.words.proofs.Laws.{bit-small, bit-union, bit-meet, bit-difference, bit-pow-same, bit-pow-other, bit-zero, ext, union-lt, same-union, count-mono, count-more}
 
 -- label l is in w
 abbrev pub On : ℕ → ℕ → Type 0
@@ -50,6 +51,25 @@ on-union a b l h = go (on? a l)
     go : Dec (On a l) → On a l ⊎ On b l
     go (yes o) = inl o
     go (no d) = inr (omega (arith, bit-union a b l, bit-small b l, off a l d))
+
+-- ---- both, and one without the other
+
+pub on-meet : (a b l : ℕ) → On (bitAnd a b) l → On a l × On b l
+on-meet a b l h = (omega (arith, bit-meet a b l, bit-small a l, bit-small b l), omega (arith, bit-meet a b l, bit-small a l, bit-small b l))
+
+pub meet-on : (a b l : ℕ) → On a l → On b l → On (bitAnd a b) l
+meet-on a b l h i = omega (arith, bit-meet a b l)
+
+pub on-difference : (a b l : ℕ) → On (difference a b) l → On a l
+on-difference a b l h = omega (arith, bit-difference a b l, bit-small a l)
+
+-- a label of the first is in the second or in the difference
+pub difference-on : (a b l : ℕ) → On a l → On (difference a b) l ⊎ On b l
+difference-on a b l h = go (on? b l)
+  where
+    go : Dec (On b l) → On (difference a b) l ⊎ On b l
+    go (yes o) = inr o
+    go (no d) = inl (omega (arith, bit-difference a b l, off b l d))
 
 -- ---- a single label
 

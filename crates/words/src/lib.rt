@@ -1,10 +1,10 @@
 // A word as a set of labels: bit l of the word says whether label l is in the set. These are the only functions that touch bits,
 // so that no contract above this crate speaks of shifts.
 ghost use mathlib.Core.Path.{_≡_};
-ghost use Prim.Native.Nat.{_^_, _<_, _≤_};
+ghost use Prim.Native.Nat.{_/_, _^_, _<_, _≤_};
 ghost use lib.Bits.{bitAnd};
 ghost use lib.Count.{trailingZeros};
-ghost use Rattle.words.specs.Words.{bit, union, countBelow, Next};
+ghost use Rattle.words.specs.Words.{bit, union, difference, countBelow, Next};
 
 // The set that holds label l alone.
 pub fn single(l: usize) -> u64
@@ -26,6 +26,21 @@ pub fn meet(x: u64, y: u64) -> u64
     ensures { λ r. ⌜ r ≡ bitAnd x y ⌝ }
 {
     x & y
+}
+
+// The labels of the first set that are not in the second.
+pub fn without(x: u64, y: u64) -> u64
+    ensures { λ r. ⌜ r ≡ difference x y ⌝ }
+{
+    x ^ (x & y)
+}
+
+// The labels from s up, counted from s.
+pub fn above(x: u64, s: usize) -> u64
+    requires { ⌜ s < 64 ⌝ }
+    ensures { λ r. ⌜ r ≡ x / 2 ^ s ⌝ }
+{
+    x >> s
 }
 
 // 1 where label l is in the set, else 0.

@@ -9,7 +9,7 @@ use Rattle.rules.specs.Gap.{Finds}
 use Rattle.rules.proofs.Find.{finds-chosen-start}
 use Rattle.format.specs.Sheet.{declared}
 use Rattle.analysis.specs.Rules.{chainRule}
-use Rattle.solver.specs.Desk.{desk}
+use Rattle.statements.specs.Desk.{desk}
 use Rattle.checker.specs.Seen.{seen}
 use Rattle.checker.proofs.Parts.{chosen-next}
 use Rattle.checker.proofs.chain.look_chains.Statement.{statement}

@@ -12,8 +12,8 @@ use Rattle.rules.specs.Rule.{include, over, when, _also_}
 use Rattle.rules.specs.Round.{labels}
 use Rattle.rules.specs.Gap.{Finds}
 use Rattle.program.specs.Program.{thisOf}
-use Rattle.solver.specs.Desk.{desk}
-use Rattle.solver.proofs.Words.{listed-prim}
+use Rattle.statements.specs.Desk.{desk}
+use Rattle.statements.proofs.Words.{listed-prim}
 use Rattle.checker.specs.Seen.{seen}
 use Rattle.checker.proofs.Loops.{each-first, each-next}
 use Rattle.checker.proofs.Finds.{each-found}

@@ -7,7 +7,7 @@ use borrow.Author.Tests.{eq-eqb, ne-eqb}
 use Rattle.rows.specs.Row.{variable, thrown}
 use Rattle.rules.proofs.Find.{finds-both, finds-rows}
 use Rattle.program.specs.Program.{thisOf}
-use Rattle.solver.specs.Desk.{desk}
+use Rattle.statements.specs.Desk.{desk}
 use Rattle.checker.proofs.Loops.{when-on, when-off}
 use Rattle.checker.proofs.function.convert_by.Statement.{statement}
 use Rattle.checker.proofs.function.convert_by.Tie as tie

@@ -6,7 +6,7 @@ use Prim.Native.Nat.{_+_}
 use Rattle.rows.specs.Row.{variable, thrown}
 use Rattle.rules.proofs.Find.{finds-both, finds-rows}
 use Rattle.program.specs.Program.{statements, guestsStatements, thisOf, returnsOf}
-use Rattle.solver.specs.Desk.{desk}
+use Rattle.statements.specs.Desk.{desk}
 use Rattle.checker.proofs.function.enter.Statement.{statement}
 use Rattle.checker.proofs.function.enter.Tie as tie
 

@@ -10,8 +10,8 @@ use Rattle.rules.specs.Gap.{Finds}
 use Rattle.rules.proofs.Find.{finds-rows}
 use Rattle.program.specs.Program.{formalsOf}
 use Rattle.analysis.specs.Rules.{passing}
-use Rattle.solver.specs.Desk.{desk}
-use Rattle.solver.proofs.Passing.{formals-six, formal-at}
+use Rattle.statements.specs.Desk.{desk}
+use Rattle.statements.proofs.Passing.{formals-six, formal-at}
 use Rattle.checker.specs.Seen.{seen}
 use Rattle.checker.proofs.Passing.{passing-first, passing-next, passing-end}
 use Rattle.checker.proofs.function.pass_arguments.Statement.{statement}

@@ -1,6 +1,6 @@
 -- The chains first, then the properties. Assumes nothing.
 use borrow.Author.Needs.{needs}
-use Rattle.solver.proofs.Finds.{found-by}
+use Rattle.tables.proofs.Found.{found-by}
 use Rattle.checker.proofs.gather.found.Statement.{statement}
 use Rattle.checker.proofs.gather.found.Tie as tie
 

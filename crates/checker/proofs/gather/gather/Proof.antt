@@ -4,7 +4,7 @@ use Prim.Native.Nat.{_+_, _-_, _≤_, _<_}
 use lib.ListN.{getD}
 use Rattle.words.proofs.Bits.{On, on-below}
 use Rattle.rules.specs.Table.{Has}
-use Rattle.solver.proofs.Loops.{Unions, unions-first, unions-next, unions-end}
+use Rattle.tables.proofs.Loops.{Unions, unions-first, unions-next, unions-end}
 use Rattle.checker.specs.Seen.{seen}
 use Rattle.checker.proofs.gather.gather.Statement.{statement}
 use Rattle.checker.proofs.gather.gather.Tie as tie

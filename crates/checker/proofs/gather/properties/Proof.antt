@@ -3,7 +3,7 @@ use borrow.Author.Needs.{needs}
 use Prim.Native.Nat.{ℕ, _+_, _*_, _-_, _≤_, _<_}
 use Rattle.words.proofs.Bits.{On}
 use Rattle.rules.specs.Table.{Has}
-use Rattle.solver.proofs.Loops.{Unions, unions-first, unions-next, unions-end}
+use Rattle.tables.proofs.Loops.{Unions, unions-first, unions-next, unions-end}
 use Rattle.checker.specs.Seen.{seen}
 use Rattle.checker.proofs.gather.properties.Statement.{statement}
 use Rattle.checker.proofs.gather.properties.Tie as tie

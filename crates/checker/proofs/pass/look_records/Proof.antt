@@ -3,7 +3,7 @@ use borrow.Author.Needs.{needs}
 use Prim.Native.Nat.{_+_, _-_, _≤_}
 use native.Mathlib.Omega.{arith}
 use lib.ListN.{length}
-use Rattle.solver.specs.Desk.{desk}
+use Rattle.statements.specs.Desk.{desk}
 use Rattle.checker.specs.Seen.{seen}
 use Rattle.checker.proofs.Walk.{Walk, walk-first, walk-room, walk-range, walk-next, walk-end}
 use Rattle.checker.proofs.pass.look_records.Statement.{statement}

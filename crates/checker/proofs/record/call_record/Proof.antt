@@ -3,7 +3,7 @@ use borrow.Author.Needs.{needs}
 use lib.ListN.{getD}
 use Rattle.program.specs.Statement.{statementsOf}
 use mathlib.Core.List.{[]}
-use Rattle.solver.specs.Desk.{desk}
+use Rattle.statements.specs.Desk.{desk}
 use Rattle.checker.proofs.Parts.{call-at, rest-is}
 use Prim.Native.Nat.{_-_}
 use lib.ListN.{length, take, drop}

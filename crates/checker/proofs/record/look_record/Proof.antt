@@ -2,7 +2,7 @@
 use mathlib.Core.List.{[]}
 use Rattle.program.specs.Statement.{statementsOf}
 use Rattle.program.specs.Program.{namesOf, returnsOf, statements, guestsStatements}
-use Rattle.solver.specs.Desk.{desk}
+use Rattle.statements.specs.Desk.{desk}
 use Rattle.checker.proofs.Parts.{variable-for, silent}
 use Rattle.checker.proofs.record.look_record.Statement.{statement}
 use Rattle.checker.proofs.record.look_record.Tie as tie

@@ -3,7 +3,7 @@ use borrow.Author.Needs.{needs}
 use lib.ListN.{getD}
 use Rattle.program.specs.Statement.{statementsOf}
 use mathlib.Core.List.{[]}
-use Rattle.solver.specs.Desk.{desk}
+use Rattle.statements.specs.Desk.{desk}
 use Rattle.checker.proofs.Parts.{prim-at}
 use Rattle.checker.proofs.record.prim_record.Statement.{statement}
 use Rattle.checker.proofs.record.prim_record.Tie as tie

@@ -4,7 +4,7 @@ use mathlib.Core.Path.{_≡_, _∙_}
 use mathlib.Core.List.{[]}
 use Prim.Native.Nat.{_-_, _≤_}
 use native.Mathlib.Omega.{arith}
-use Rattle.solver.specs.Desk.{desk}
+use Rattle.statements.specs.Desk.{desk}
 use Rattle.verdicts.specs.Check.{declaredWord}
 use Rattle.checker.proofs.Seen.{word-none, word-next}
 use Rattle.checker.proofs.view.declared_word.Statement.{statement}

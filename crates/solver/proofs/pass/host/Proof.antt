@@ -1,28 +1,35 @@
 -- A turn for each record: the invariant is that what is left of the file is the records left. Assumes nothing.
 use borrow.Author.Needs.{needs}
-use mathlib.Core.Path.{_≡_, ap₂, _∙_}
+use mathlib.Core.Path.{_≡_, refl, ap₂, _∙_}
 use mathlib.Core.List.{List}
 use Prim.Native.Nat.{ℕ, _-_, _≤_}
 use native.Mathlib.Omega.{arith}
 use lib.ListN.{length, getD}
 use Rattle.layout.specs.Layout.{bodyLength}
 use Rattle.layout.proofs.Table.{length-at}
-use Rattle.solver.specs.Desk.{desk}
-use Rattle.solver.proofs.Walk.{Walk, walk-first, walk-known, walk-room, walk-range, walk-next, walk-end}
+use Rattle.statements.specs.View.{Laid, View}
+use Rattle.rules.specs.Table.{Table, Within}
+use Rattle.rules.specs.Rule.{every}
+use Rattle.rules.specs.Sweep.{Resumes}
+use Rattle.program.specs.Program.{Program}
+use Rattle.solver.proofs.Walk.{Walk, rulesOf, walk-first, resumes-first, walk-known, walk-room, walk-range, walk-next, resumes-next, walk-end}
 use Rattle.solver.proofs.pass.host.Statement.{statement}
 use Rattle.solver.proofs.pass.host.Tie as tie
 
 abbrev Inv-loop : tie.InvT-loop
-Inv-loop t₀ file types flags formals masks returned lengths grew₀ at₀ t grew at = Walk (desk types flags formals masks returned) file at t₀ t grew
+Inv-loop t₀ file functions flags formals classes last chains fresh methods added handed stirred stale lengths grew₀ at₀ t grew at =
+    (length t ≡ length t₀) × ((w : Walk file at) × ((p : Program) (returned : List ℕ) (old new : Table) → Laid p functions flags formals classes returned
+    → View old new returned last chains fresh methods added handed stirred stale → Within new t₀
+    → Resumes 64 (every (rulesOf p (w .done))) old new t₀ t grew))
 
 abbrev μ-loop : tie.MeasureT-loop
-μ-loop t₀ file types flags formals masks returned lengths grew₀ at₀ t grew at = length file - at
+μ-loop t₀ file functions flags formals classes last chains fresh methods added handed stirred stale lengths grew₀ at₀ t grew at = length file - at
 
 lengths-requires : tie.Need-lengths-requires Inv-loop μ-loop
 lengths-requires c κs = search needs
 
 loop-holds : tie.Need-loop-holds Inv-loop μ-loop
-loop-holds c = walk-first _ _ (c .before .before .before .pre .1)
+loop-holds c = (refl, (walk-first _ (c .before .before .before .pre .1), λ p returned old new l v w. resumes-first p _ (c .before .before .before .pre .1)))
 
 shared-slice-read-kind : tie.Need-shared-slice-read-kind Inv-loop μ-loop
 shared-slice-read-kind c = search needs
@@ -32,7 +39,7 @@ wide-requires c κs = search needs
 
 array-read-wide : tie.Need-array-read-wide Inv-loop μ-loop
 array-read-wide c =
-    let k = walk-known (c .before .before .before .loop .inv) (c .before .before .loop-test .taken) in
+    let k = walk-known (c .before .before .before .loop .inv .1 .0) (c .before .before .loop-test .taken) in
     omega (arith, k, c .wide .ensures .0)
 
 wide-requires-2 : tie.Need-wide-requires-2 Inv-loop μ-loop
@@ -40,7 +47,7 @@ wide-requires-2 c κs = search needs
 
 add-statement : tie.Need-add-statement Inv-loop μ-loop
 add-statement c =
-    let w = c .before .before .before .before .before .loop .inv in
+    let w = c .before .before .before .before .before .loop .inv .1 .0 in
     let h = c .before .before .before .before .loop-test .taken in
     let k = getD (c .before .before .before .before .before .before .before .before .before .args .file .now) (c .before .before .before .before .before .loop .at) 0 in
     let n = c .before .wide2 .ensures .0 in
@@ -51,7 +58,7 @@ add-statement c =
 
 add-statement-2 : tie.Need-add-statement-2 Inv-loop μ-loop
 add-statement-2 c =
-    let w = c .before .before .before .before .before .loop .inv in
+    let w = c .before .before .before .before .before .loop .inv .1 .0 in
     let h = c .before .before .before .before .loop-test .taken in
     let k = getD (c .before .before .before .before .before .before .before .before .before .args .file .now) (c .before .before .before .before .before .loop .at) 0 in
     let n = c .before .wide2 .ensures .0 in
@@ -62,7 +69,7 @@ add-statement-2 c =
 
 add-statement-3 : tie.Need-add-statement-3 Inv-loop μ-loop
 add-statement-3 c =
-    let w = c .before .before .before .before .before .loop .inv in
+    let w = c .before .before .before .before .before .loop .inv .1 .0 in
     let h = c .before .before .before .before .loop-test .taken in
     let k = getD (c .before .before .before .before .before .before .before .before .before .args .file .now) (c .before .before .before .before .before .loop .at) 0 in
     let n = c .before .wide2 .ensures .0 in
@@ -73,7 +80,7 @@ add-statement-3 c =
 
 sub-statement : tie.Need-sub-statement Inv-loop μ-loop
 sub-statement c =
-    let w = c .before .before .before .before .before .loop .inv in
+    let w = c .before .before .before .before .before .loop .inv .1 .0 in
     let h = c .before .before .before .before .loop-test .taken in
     let k = getD (c .before .before .before .before .before .before .before .before .before .args .file .now) (c .before .before .before .before .before .loop .at) 0 in
     let n = c .before .wide2 .ensures .0 in
@@ -84,7 +91,7 @@ sub-statement c =
 
 part-statement-start : tie.Need-part-statement-start Inv-loop μ-loop
 part-statement-start c =
-    let w = c .before .before .before .before .before .loop .inv in
+    let w = c .before .before .before .before .before .loop .inv .1 .0 in
     let h = c .before .before .before .before .loop-test .taken in
     let k = getD (c .before .before .before .before .before .before .before .before .before .args .file .now) (c .before .before .before .before .before .loop .at) 0 in
     let n = c .before .wide2 .ensures .0 in
@@ -95,7 +102,7 @@ part-statement-start c =
 
 part-statement-end : tie.Need-part-statement-end Inv-loop μ-loop
 part-statement-end c =
-    let w = c .before .before .before .before .before .loop .inv in
+    let w = c .before .before .before .before .before .loop .inv .1 .0 in
     let h = c .before .before .before .before .loop-test .taken in
     let k = getD (c .before .before .before .before .before .before .before .before .before .args .file .now) (c .before .before .before .before .before .loop .at) 0 in
     let n = c .before .wide2 .ensures .0 in
@@ -106,19 +113,20 @@ part-statement-end c =
 
 statement-requires : tie.Need-statement-requires Inv-loop μ-loop
 statement-requires c κs =
-    let w = c .before .before .before .before .before .before .loop .inv in
+    let w = c .before .before .before .before .before .before .loop .inv .1 .0 in
     let h = c .before .before .before .before .before .loop-test .taken in
     let k = getD (c .before .before .before .before .before .before .before .before .before .before .args .file .now) (c .before .before .before .before .before .before .loop .at) 0 in
     let n = c .before .before .wide2 .ensures .0 in
     let size : c .before .before .wide2 .result ≡ bodyLength k =
     n ∙ ap₂ (λ (xs : List ℕ) (i : ℕ). getD xs i 0) (c .before .before .before .before .before .before .before .lengths .ensures) (c .before .before .before .wide .ensures .0) ∙ length-at k in
     let room = walk-room w h in
-    let long : 2432 ≤ length (c .before .before .before .before .before .before .loop .t) = omega (arith, w .swept .reaches .same-length, c .before .before .before .before .before .before .before .before .before .before .pre .0) in
-    (long, walk-range w h (c .before .before .wide2 .result) size, c .before .before .before .before .before .before .before .before .before .before .pre .2)
+    let pre = c .before .before .before .before .before .before .before .before .before .before .pre in
+    let long : 2432 ≤ length (c .before .before .before .before .before .before .loop .t) = omega (arith, c .before .before .before .before .before .before .loop .inv .0, pre .0) in
+    (long, walk-range w h (c .before .before .wide2 .result) size, pre .2, pre .3, pre .4, pre .5)
 
 add-at : tie.Need-add-at Inv-loop μ-loop
 add-at c =
-    let w = c .before .before .before .before .before .before .before .before .before .loop .inv in
+    let w = c .before .before .before .before .before .before .before .before .before .loop .inv .1 .0 in
     let h = c .before .before .before .before .before .before .before .before .loop-test .taken in
     let k = getD (c .before .before .before .before .before .before .before .before .before .before .before .before .before .args .file .now) (c .before .before .before .before .before .before .before .before .before .loop .at) 0 in
     let n = c .before .before .before .before .before .wide2 .ensures .0 in
@@ -129,7 +137,7 @@ add-at c =
 
 add-at-2 : tie.Need-add-at-2 Inv-loop μ-loop
 add-at-2 c =
-    let w = c .before .before .before .before .before .before .before .before .before .loop .inv in
+    let w = c .before .before .before .before .before .before .before .before .before .loop .inv .1 .0 in
     let h = c .before .before .before .before .before .before .before .before .loop-test .taken in
     let k = getD (c .before .before .before .before .before .before .before .before .before .before .before .before .before .args .file .now) (c .before .before .before .before .before .before .before .before .before .loop .at) 0 in
     let n = c .before .before .before .before .before .wide2 .ensures .0 in
@@ -140,7 +148,7 @@ add-at-2 c =
 
 loop-less : tie.Need-loop-less Inv-loop μ-loop
 loop-less c =
-    let w = c .before .before .before .before .before .before .before .before .before .loop .inv in
+    let w = c .before .before .before .before .before .before .before .before .before .loop .inv .1 .0 in
     let h = c .before .before .before .before .before .before .before .before .loop-test .taken in
     let k = getD (c .before .before .before .before .before .before .before .before .before .before .before .before .before .args .file .now) (c .before .before .before .before .before .before .before .before .before .loop .at) 0 in
     let n = c .before .before .before .before .before .wide2 .ensures .0 in
@@ -151,20 +159,29 @@ loop-less c =
 
 loop-again : tie.Need-loop-again Inv-loop μ-loop
 loop-again c =
-    let w = c .before .before .before .before .before .before .before .before .before .loop .inv in
+    let w = c .before .before .before .before .before .before .before .before .before .loop .inv .1 .0 in
     let h = c .before .before .before .before .before .before .before .before .loop-test .taken in
     let k = getD (c .before .before .before .before .before .before .before .before .before .before .before .before .before .args .file .now) (c .before .before .before .before .before .before .before .before .before .loop .at) 0 in
     let n = c .before .before .before .before .before .wide2 .ensures .0 in
     let size : c .before .before .before .before .before .wide2 .result ≡ bodyLength k =
     n ∙ ap₂ (λ (xs : List ℕ) (i : ℕ). getD xs i 0) (c .before .before .before .before .before .before .before .before .before .before .lengths .ensures) (c .before .before .before .before .before .before .wide .ensures .0) ∙ length-at k in
     let room = walk-room w h in
-    walk-next w h (c .before .before .before .before .before .wide2 .result) size (c .before .before .statement .ensures)
+    let r = c .before .before .before .before .before .before .before .before .before .loop in
+    let n = c .before .before .before .before .before .wide2 .result in (
+      search needs,
+      (
+        walk-next w h n size,
+        λ p returned old new l v within.
+            let done = r .inv .1 .1 p returned old new l v within in
+            resumes-next w h n size p done (c .before .before .statement .ensures p returned old new l v (λ x y i. done .reaches .adds x y (within x y i))),
+      ),
+    )
 
 same-length : tie.Need-same-length Inv-loop μ-loop
-same-length c = c .before .loop .inv .swept .reaches .same-length
+same-length c = c .before .loop .inv .0
 
 returns : tie.Need-returns Inv-loop μ-loop
-returns c = walk-end (c .before .loop .inv) (c .loop-test .left)
+returns c = λ p returned old new l v within. walk-end p (c .before .loop .inv .1 .0) (c .loop-test .left) (c .before .loop .inv .1 .1 p returned old new l v within)
 
 pub host-spec : {M : Type 1} → statement M
 host-spec =

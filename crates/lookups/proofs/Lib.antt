@@ -1,0 +1,4 @@
+-- Laws of the notes and of the words kept. Assumes nothing.
+pub mod Notes
+pub mod Looks
+pub mod Keeps

@@ -1,0 +1,227 @@
+-- What a load or a prototype finds is one word, joined to one row: the rules tell its labels, and what it leaves out was drawn before. Assumes nothing.
+use mathlib.Core.Path.{_≡_, refl, sym, _∙_, subst}
+use mathlib.Core.Logic.{_⊎_, inl, inr}
+use mathlib.Core.List.{List, [], _∷_, List·Memᴰ, List·Memᴰ·eq-of-singleton}
+use mathlib.Core.Bool.{Bool, true, false, cond, not}
+use Prim.Native.Nat.{ℕ, _+_, _-_, _*_, _/_, _%_, _^_, _<_}
+use native.Mathlib.Omega.{arith}
+use lib.ListN.{getD}
+use lib.Dec.{eqb, ltb}
+use borrow.Author.Tests.{eqb-true, eqb-false, ltb-true}
+use Rattle.words.specs.Words.{bit, union}
+use Rattle.words.proofs.Bits.{On, on?, on-union, on-left, on-right, on-single, single-only, on-below}
+use Rattle.rows.specs.Row.{variable, property, chain, rowCount}
+use Rattle.rules.specs.Table.{Table, Has, Within, Shaped}
+use Rattle.rules.specs.Rule.{Rule, include, each, over, both, when, chosen}
+use Rattle.rules.specs.Told.{Told, Closed}
+use Rattle.rules.specs.Round.{join, labels}
+use Rattle.rules.specs.Gap.{grows}
+use Rattle.rules.specs.Sweep.{Heeds, Draws, Sweeps, Resumes}
+use Rattle.rules.proofs.Labels.{label-on, on-label, chosen-passes}
+use Rattle.rules.proofs.Join.{join-tells, join-keeps}
+use Rattle.rules.proofs.Sweep.{sweeps-for}
+use Rattle.rules.proofs.Resumes.{resumes-join, resumes-skip}
+use Rattle.format.specs.Sheet.{builtIn}
+use Rattle.program.specs.Program.{Program, namesOf, inClass}
+use Rattle.analysis.specs.Rules.{looking, storing}
+use Rattle.tables.specs.Sets.{Listed}
+use Rattle.lookups.specs.Kept.{Noted, Same, OnChains, Delta, Looked}
+use Rattle.statements.specs.Range.{Key}
+use Rattle.statements.proofs.Passing.{closed-when, heeds-when}
+
+-- a row is noted or not
+pub noted? : (last : List ℕ) (r : ℕ) → Dec (Noted last r)
+noted? last r = on? (getD last (r / 64) 0) (r % 64)
+
+-- a row that is not noted holds in `old` what it holds in `new`
+pub held-before : (last : List ℕ) (old new : Table) → Same last old new → (r l : ℕ) → r < 2432 → (Noted last r → ⊥) → Has new r l → Has old r l
+held-before last old new same r l i n h = subst (λ (w : ℕ). On w l) (same r i n) h
+
+-- what `noted` says
+pub note-on : (last : List ℕ) (r : ℕ) (b : Bool) → b ≡ eqb (bit (getD last (r / 64) 0) (r % 64)) 1 → b ≡ true → Noted last r
+note-on last r b e t = eqb-true (bit (getD last (r / 64) 0) (r % 64)) 1 (sym e ∙ t)
+
+pub note-off : (last : List ℕ) (r : ℕ) (b : Bool) → b ≡ eqb (bit (getD last (r / 64) 0) (r % 64)) 1 → b ≡ false → Noted last r → ⊥
+note-off last r b e t = eqb-false (bit (getD last (r / 64) 0) (r % 64)) 1 (sym e ∙ t)
+
+-- the names of a key are names
+pub names-below : (p : Program) (key : ℕ) → Key key → (n : ℕ) → List·Memᴰ n (namesOf (p .sheet) key) → n < 32
+unfolding namesOf
+names-below p key k n i = go (ltb key 128) refl i
+  where
+    go : (b : Bool) → ltb key 128 ≡ b → List·Memᴰ n (cond b (key ∷ []) (chosen (inClass (p .sheet) (key - 128)) 32)) → n < 32
+    go true e j = let q = List·Memᴰ·eq-of-singleton j in omega (arith, k .1 (ltb-true key 128 e))
+    go false e j = chosen-passes (inClass (p .sheet) (key - 128)) 32 n j .0
+
+-- ---- a load
+
+-- where the chain of w grew, it is looked through as a whole
+pub record Renewed (last : List ℕ) (w fresh own renewed : ℕ) : Type 0 where
+  pub kept : (m : ℕ) → On fresh m → On renewed m
+  pub again : Noted last (2304 + w) → (m : ℕ) → On own m → On renewed m
+  pub part : (m : ℕ) → On renewed m → On fresh m ⊎ On own m
+
+pub renewed-all : (last : List ℕ) (w fresh own renewed : ℕ) → renewed ≡ union fresh own → Renewed last w fresh own renewed
+renewed-all last w fresh own renewed e =
+    record {
+      kept = λ m o. rw e (on-left fresh own m o);
+      again = λ n m o. rw e (on-right fresh own m o);
+      part = λ m o. on-union fresh own m (rw e at o);
+    }
+
+pub renewed-none : (last : List ℕ) (w fresh own renewed : ℕ) → (Noted last (2304 + w) → ⊥) → renewed ≡ fresh → Renewed last w fresh own renewed
+renewed-none last w fresh own renewed n e =
+    record { kept = λ m o. rw e o; again = λ i m o. absurd (n i); part = λ m o. inl (rw e at o) }
+
+-- they are among the labels looked through
+pub renewed-among : (last : List ℕ) (w chains fresh own renewed : ℕ) → ((m : ℕ) → On fresh m → On chains m) → Renewed last w fresh own renewed
+    → (m : ℕ) → On renewed m → On (union chains own) m
+renewed-among last w chains fresh own renewed f r m o = elim (r .part m o) [ inl i ↦ on-left chains own m (f m i) | inr i ↦ on-right chains own m i ]
+
+module _ (p : Program) (last : List ℕ) (old new t : Table) (y x key w names chains fresh own renewed all : ℕ) where
+  rule : Rule
+  rule = both (looking p y key w) (each (variable x) (λ l. looking p y key l))
+
+  module _ (shaped : Shaped 64 t) (hy : y < 256) (hw : w < 64) (hc : union chains own < 2 ^ 64) (ha : all < 2 ^ 64) (k : Key key)
+      (ns : Listed (namesOf (p .sheet) key) names) (same : Same last old new) (d : Delta (OnChains old x) (OnChains new x) chains fresh)
+      (within : Within new t) (is-own : own ≡ getD t (2304 + w) 0)
+      (renew : Renewed last w fresh own renewed)
+      (looked : Looked t last (union chains own) renewed names all) where
+    told : (v : ℕ) → 0 < y → On all v → Told 64 t rule y v
+    unfolding rule
+    told v z o = go (looked .source v o)
+      where
+        pick : (m n : ℕ) → On names n → Has t (256 + 32 * m + n) v → On chains m ⊎ On own m → Told 64 t rule y v
+        pick m n i h (inl c) =
+            let q = d .exact .sound m c in
+            inr (q .0, within x (q .0) (q .1), (m, within (2304 + q .0) m (q .2), (n, ns .source n i, (z, refl, h))))
+        pick m n i h (inr c) = inl (m, rw (← is-own) c, (n, ns .source n i, (z, refl, h)))
+
+        go : (m : ℕ) × On (union chains own) m × ((n : ℕ) × On names n × Has t (256 + 32 * m + n) v) → Told 64 t rule y v
+        go g = pick (g .0) (g .2 .0) (g .2 .1) (g .2 .2) (on-union chains own (g .0) (g .1))
+
+    -- what is in a fresh or noted property is found
+    found : (m n v : ℕ) → 0 < y → On (union chains own) m → List·Memᴰ n (namesOf (p .sheet) key) → On renewed m ⊎ Noted last (256 + 32 * m + n)
+        → Has new (256 + 32 * m + n) v → Has (join y all t) y v
+    found m n v z c i e h =
+        join-tells y all t z (omega (arith, shaped .long)) v
+        (looked .all m n v (names-below p key k n i) c (ns .all n i) e (within (256 + 32 * m + n) v h))
+
+    -- what is in another was drawn before, if its label was on the chain of l then
+    before : (l m n v : ℕ) → 0 < y → On (union chains own) m → List·Memᴰ n (namesOf (p .sheet) key) → Draws 64 old t (looking p y key l)
+        → Has old (2304 + l) m → Has new (256 + 32 * m + n) v → Has (join y all t) y v
+    before l m n v z c i drawn h g = go (noted? last (256 + 32 * m + n))
+      where
+        go : Dec (Noted last (256 + 32 * m + n)) → Has (join y all t) y v
+        go (yes e) = found m n v z c i (inr e) g
+        go (no e) =
+            let a : m < 64 = on-below 64 (union chains own) m hc c in
+            let b : n < 32 = names-below p key k n i in
+            join-keeps y all t y v (drawn m h n i z v (held-before last old new same (256 + 32 * m + n) v (omega arith) e g))
+
+    enough : Draws 64 old t rule → Heeds 64 new (join y all t) rule
+    unfolding rule
+    enough drawn = (λ m h n i z v g. own-chain m n v h i z g (noted? last (2304 + w)), λ l o m h n i z v g. chained l m n v o h i z g)
+      where
+        own-chain : (m n v : ℕ) → Has new (2304 + w) m → List·Memᴰ n (namesOf (p .sheet) key) → 0 < y → Has new (256 + 32 * m + n) v
+            → Dec (Noted last (2304 + w)) → Has (join y all t) y v
+        own-chain m n v h i z g e =
+            let o : On own m = rw is-own (within (2304 + w) m h) in
+            elim e [
+              | yes e ↦ found m n v z (on-right chains own m o) i (inl (renew .again e m o)) g
+              | no e ↦ before w m n v z (on-right chains own m o) i (drawn .0) (held-before last old new same (2304 + w) m (omega arith) e h) g
+            ]
+
+        chained : (l m n v : ℕ) → Has new x l → Has new (2304 + l) m → List·Memᴰ n (namesOf (p .sheet) key) → 0 < y → Has new (256 + 32 * m + n) v
+            → Has (join y all t) y v
+        chained l m n v o h i z g =
+            let c = d .exact .all m (l, o, h) in
+            elim (d .known m c) [
+              | inl f ↦ found m n v z (on-left chains own m c) i (inl (renew .kept m f)) g
+              | inr q ↦ before (q .0) m n v z (on-left chains own m c) i (drawn .1 (q .0) (q .1)) (q .2) g
+            ]
+
+    pub load-resumes : Resumes 64 (both (looking p y key w) (each (variable x) (λ l. looking p y key l))) old new t (join y all t) (grows y all t)
+    unfolding rule
+    load-resumes = resumes-join rule y all t shaped (omega arith) ha told enough
+
+-- ---- prototypes
+
+module _ (last : List ℕ) (old new t : Table) (c l chains fresh all : ℕ) where
+  prototype : Rule
+  prototype = each (variable c) (λ f. each (chain f) (λ m. include (chain l) (property m 3)))
+
+  module _ (shaped : Shaped 64 t) (hl : l < 64) (hc : chains < 2 ^ 64) (ha : all < 2 ^ 64) (same : Same last old new)
+      (d : Delta (OnChains old c) (OnChains new c) chains fresh) (within : Within new t) (looked : Looked t last chains fresh 8 all) where
+    told-prototype : (v : ℕ) → 0 < 2304 + l → On all v → Told 64 t prototype (2304 + l) v
+    unfolding prototype
+    told-prototype v z o =
+        let g = looked .source v o in
+        let q = d .exact .sound (g .0) (g .1) in
+        let e : g .2 .0 ≡ 3 = single-only 3 (g .2 .0) (g .2 .1) in (
+          q .0,
+          within c (q .0) (q .1),
+          (
+            g .0,
+            within (2304 + q .0) (g .0) (q .2),
+            (z, refl, subst (λ (n : ℕ). Has t (256 + 32 * g .0 + n) v) e (g .2 .2)),
+          ),
+        )
+
+    drawn-prototype : Draws 64 old t prototype → Heeds 64 new (join (2304 + l) all t) prototype
+    unfolding prototype
+    drawn-prototype drawn f o m h z v g =
+        let c = d .exact .all m (f, o, h) in
+        go c (d .known m c) (noted? last (256 + 32 * m + 3))
+      where
+        found-three : On chains m → On fresh m ⊎ Noted last (256 + 32 * m + 3) → Has (join (2304 + l) all t) (2304 + l) v
+        found-three i e =
+            join-tells (2304 + l) all t z (omega (arith, shaped .long)) v
+            (looked .all m 3 v (omega arith) i (on-single 3) e (within (256 + 32 * m + 3) v g))
+
+        go : On chains m → On fresh m ⊎ OnChains old c m → Dec (Noted last (256 + 32 * m + 3)) → Has (join (2304 + l) all t) (2304 + l) v
+        go i (inl e) _ = found-three i (inl e)
+        go i (inr q) (yes e) = found-three i (inr e)
+        go i (inr q) (no e) =
+            let a : m < 64 = on-below 64 chains m hc i in
+            join-keeps (2304 + l) all t (2304 + l) v
+            (drawn (q .0) (q .1) m (q .2) z v (held-before last old new same (256 + 32 * m + 3) v (omega arith) e g))
+
+    pub prototypes-resumes : Resumes 64 (each (variable c) (λ f. each (chain f) (λ m. include (chain l) (property m 3)))) old new t
+        (join (2304 + l) all t) (grows (2304 + l) all t)
+    unfolding prototype
+    prototypes-resumes = resumes-join prototype (2304 + l) all t shaped (omega arith) ha told-prototype drawn-prototype
+
+-- ---- a store
+
+pub store-named : {t u : Table} {grew : Bool} (p : Program) (x key a names : ℕ) → Listed (namesOf (p .sheet) key) names → names < 2 ^ 64
+    → Sweeps 64 (each (variable x) (λ l. when (not (builtIn (p .sheet) l)) (over (labels 64 names) (λ n. include (property l n) (variable a))))) t u grew
+    → Sweeps 64 (storing p x key a) t u grew
+store-named {t} {u} p x key a names listed h s =
+    sweeps-for (λ v w c l i. closed-when v (named l) (worded l) (test l) (λ d n j. d n (listed .source n (label-on 64 names n j .1))) (c l i))
+    (λ c l i. heeds-when t u (worded l) (named l) (test l)
+    (λ d n j. d n (on-label 64 names n (on-below 64 names n h (listed .all n j)) (listed .all n j))) (c l i))
+    s
+  where
+    test : ℕ → Bool
+    test l = not (builtIn (p .sheet) l)
+
+    named : ℕ → Rule
+    named l = over (namesOf (p .sheet) key) (λ n. include (property l n) (variable a))
+
+    worded : ℕ → Rule
+    worded l = over (labels 64 names) (λ n. include (property l n) (variable a))
+
+-- where neither S(x) nor S(a) grew, all was stored before
+pub store-known : (p : Program) (last : List ℕ) (old new t : Table) (x key a : ℕ) → x < 256 → a < 256 → Same last old new
+    → (Noted last x → ⊥) → (Noted last a → ⊥) → Resumes 64 (storing p x key a) old new t t false
+store-known p last old new t x key a hx ha same nx na =
+    resumes-skip (λ drawn l o. draws-when old new t (storeRule l) (not (builtIn (p .sheet) l))
+    (λ d n i z v g. d n i z v (held-before last old new same a v (omega arith) na g)) (drawn l (held-before last old new same x l (omega arith) nx o)))
+  where
+    storeRule : ℕ → Rule
+    storeRule l = over (namesOf (p .sheet) key) (λ n. include (property l n) (variable a))
+
+    draws-when : (old new t : Table) (q : Rule) (b : Bool) → (Draws 64 old t q → Heeds 64 new t q) → Draws 64 old t (when b q) → Heeds 64 new t (when b q)
+    draws-when old new t q true f d = f d
+    draws-when old new t q false f d = tt

@@ -1,0 +1,2 @@
+-- What the functions on the lent table promise.
+pub mod Sets

@@ -1,0 +1,34 @@
+// Unions of rows, collected in a word; nothing is written.
+ghost use mathlib.Core.Path.{_≡_};
+ghost use Prim.Native.Nat.{_+_, _<_, _≤_};
+ghost use lib.ListN.{length};
+ghost use Rattle.tables.specs.Sets.{Gathered, Properties};
+
+// The union of the rows of the labels ls, counted from row `base`.
+pub fn gather(t: &[u64], ls: u64, base: usize) -> u64
+    requires { ⌜ base + 64 ≤ length (now t) ⌝ }
+    ensures { λ r. ⌜ Gathered (now (t .entry)) ls base r ⌝ }
+{
+    let mut all: u64 = 0;
+    let mut l = words::next(ls, 0);
+    while l < 64 {
+        all = words::join(all, t[base + l]);
+        l = words::next(ls, l + 1);
+    }
+    all
+}
+
+// The union of H(m,n) for the labels ms and the names.
+pub fn properties(t: &[u64], ms: u64, names: u64) -> u64
+    requires { ⌜ 2432 ≤ length (now t) ⌝ }
+    ensures { λ r. ⌜ Properties (now (t .entry)) ms names r ⌝ }
+{
+    let mut all: u64 = 0;
+    let mut m = words::next(ms, 0);
+    while m < 64 {
+        let some = gather(t, names, 256 + 32 * m);
+        all = words::join(all, some);
+        m = words::next(ms, m + 1);
+    }
+    all
+}
