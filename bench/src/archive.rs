@@ -1,6 +1,6 @@
 //! The archive's two operations, timed in a process of their own so that a slow call can be given up.
 
-use compare::{unpack, Answer, TABLE_WORDS};
+use pezvoran::{Answer, TABLE_WORDS};
 use std::io::{Read, Write};
 use std::process::{Command, Stdio};
 use std::time::{Duration, Instant};
@@ -42,7 +42,7 @@ pub fn measured(file: &[u8], finished: &[u64], limit: Duration) -> (Option<Check
     }
     child.wait().expect("it is a child of this program");
     let words = reading.join().expect("reading does not fail");
-    let pair = |i: usize| (Duration::from_nanos(words[i]), unpack(words[i + 1]));
+    let pair = |i: usize| (Duration::from_nanos(words[i]), Answer::of_word(words[i + 1]).expect("the archive answers by its contract"));
     let check = (words.len() >= 2).then(|| pair(0)).map(|(time, answer)| Check { time, answer });
     let verdict = (words.len() == 4 + TABLE_WORDS).then(|| pair(2));
     (check, verdict.map(|(time, answer)| Verdict { time, answer, table: words[4..].to_vec() }))

@@ -3,7 +3,7 @@
 use crate::archive::{best, measured};
 use crate::table::{limited, milliseconds, ratio, thousands};
 use crate::{files, hand, passes};
-use compare::Answer;
+use pezvoran::{Answer, Refusal};
 use second::reader::read;
 use second::solver;
 use std::hint::black_box;
@@ -44,7 +44,7 @@ pub fn compared(name: &str, file: &[u8], limit: Duration) -> Compared {
     }
     if let Some(check) = &check {
         let expected = match answer {
-            Answer::Leaks { label, .. } => Answer::Refused { number: 11, position: label },
+            Answer::Leaks { label, .. } => Answer::Refused(Refusal { number: 11, position: label.into() }),
             _ => Answer::Accepted,
         };
         assert_eq!(check.answer, expected, "{name}: check");
@@ -67,7 +67,7 @@ pub fn compared(name: &str, file: &[u8], limit: Duration) -> Compared {
 impl Compared {
     pub fn facts(&self) -> u64 {
         match self.answer {
-            Answer::Confined { count } | Answer::Leaks { count, .. } => count,
+            Answer::Confined { facts } | Answer::Leaks { facts, .. } => facts.into(),
             _ => 0,
         }
     }

@@ -7,7 +7,7 @@ mod lay;
 mod sets;
 mod spread;
 
-use compare::Answer;
+use pezvoran::{Answer, Refusal};
 use second::program::{Program, BAG};
 use second::reader::read;
 use second::rows::{labels, s, ROWS};
@@ -76,8 +76,8 @@ pub fn verdict(file: &[u8]) -> (Answer, Vec<u64>) {
     let program = match read(file) {
         Ok(program) => program,
         Err(refusal) => {
-            let (number, position) = (refusal.number as u64, refusal.position as u64);
-            return (Answer::Refused { number, position }, Vec::new());
+            let refusal = Refusal { number: refusal.number, position: refusal.position as u64 };
+            return (Answer::Refused(refusal), Vec::new());
         }
     };
     let mut solver = Solver::new(&program);
@@ -85,10 +85,10 @@ pub fn verdict(file: &[u8]) -> (Answer, Vec<u64>) {
     solver.run();
     let mut table = solver.rows;
     table.truncate(ROWS);
-    let count = table.iter().map(|row| row.count_ones() as u64).sum();
+    let facts = table.iter().map(|row| row.count_ones()).sum();
     let answer = match labels(table[s(BAG)] & program.forbidden).next() {
-        Some(l) => Answer::Leaks { label: l as u64, count },
-        None => Answer::Confined { count },
+        Some(l) => Answer::Leaks { label: l, facts },
+        None => Answer::Confined { facts },
     };
     (answer, table)
 }

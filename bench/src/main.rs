@@ -103,12 +103,12 @@ fn stack() {
     println!("## Stack\n");
     let mut rows = vec![["file", "verdict, bytes", "check, bytes"].map(str::to_string).to_vec()];
     for (name, file) in [("empty", vec![]), ("ordinary", ordinary(LONGEST, 1)), ("dense", dense::dense(0, 1))] {
-        let mut lent = vec![0; compare::TABLE_WORDS];
+        let mut lent = vec![0; pezvoran::TABLE_WORDS];
         let verdict = used_by(|| {
-            compare::verdict(&file, &mut lent);
+            pezvoran::verdict(&file, &mut lent);
         });
         let check = used_by(|| {
-            compare::check(&file, &lent);
+            pezvoran::check(&file, &lent);
         });
         rows.push(vec![name.to_string(), table::thousands(verdict as u64), table::thousands(check as u64)]);
     }

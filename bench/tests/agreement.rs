@@ -1,7 +1,7 @@
 //! The hand-written solver and the counted passes give the tables of the second implementation, on its own seeded files.
 
 use bench::{hand, passes};
-use compare::Answer;
+use pezvoran::{Answer, Refusal};
 use second::generate::{dense, every};
 use second::reader::read;
 use second::solver::solve;
@@ -19,8 +19,8 @@ fn same_tables() {
                 assert_eq!(table, passed, "{name}");
             }
             Err(refusal) => {
-                let (number, position) = (refusal.number as u64, refusal.position as u64);
-                assert_eq!(answer, Answer::Refused { number, position }, "{name}");
+                let refusal = Refusal { number: refusal.number, position: refusal.position as u64 };
+                assert_eq!(answer, Answer::Refused(refusal), "{name}");
             }
         }
     }

@@ -2,7 +2,7 @@
 //! little-endian order: nanoseconds and answer of the check, the same of the verdict, and the table that the verdict left.
 
 use bench::archive::{best, words};
-use compare::TABLE_WORDS;
+use pezvoran::TABLE_WORDS;
 use std::io::{Read, Write};
 use std::time::Duration;
 

@@ -8,7 +8,7 @@ use bench::archive::measured;
 use bench::files::filler::{Filler, FILLERS};
 use bench::files::worst::{worst, SHAPES};
 use bench::{mutate::mutated, passes, slowest};
-use compare::TABLE_WORDS;
+use pezvoran::TABLE_WORDS;
 use second::prng::Prng;
 use second::reader::read;
 use std::time::{Duration, Instant};
