@@ -1,0 +1,55 @@
+/* How libFuzzer changes an input: a byte of the head, a whole record, or any bytes behind the head. */
+#include "input.h"
+#include "repair.h"
+
+#include <string.h>
+
+size_t LLVMFuzzerMutate(uint8_t *bytes, size_t length, size_t room);
+size_t LLVMFuzzerCustomMutator(uint8_t *input, size_t length, size_t room, unsigned seed);
+
+/* The first record's end behind `at`. */
+static size_t next(const uint8_t *bytes, size_t length, size_t at)
+{
+    size_t end = at + record_length(bytes[at]);
+    return end < length ? end : length;
+}
+
+/* The last start of a record that is not behind `at`. */
+static size_t record_before(const uint8_t *bytes, size_t length, size_t at)
+{
+    size_t start = 0;
+    while (start < length && next(bytes, length, start) <= at)
+        start = next(bytes, length, start);
+    return start;
+}
+
+/* Takes a record out, or puts a copy of it before another. */
+static size_t change_record(uint8_t *bytes, size_t length, size_t room, unsigned seed)
+{
+    uint8_t record[LONGEST_RECORD];
+    size_t start = record_before(bytes, length, (seed >> 2) % length);
+    size_t size = next(bytes, length, start) - start;
+    if (seed & 1) {
+        memmove(bytes + start, bytes + start + size, length - start - size);
+        return length - size;
+    }
+    if (length + size > room)
+        return length;
+    size_t to = record_before(bytes, length, (seed >> 14) % length);
+    memcpy(record, bytes + start, size);
+    memmove(bytes + to + size, bytes + to, length - to);
+    memcpy(bytes + to, record, size);
+    return length + size;
+}
+
+size_t LLVMFuzzerCustomMutator(uint8_t *input, size_t length, size_t room, unsigned seed)
+{
+    if (length <= HEAD || room <= HEAD)
+        return LLVMFuzzerMutate(input, length, room);
+    unsigned rest = seed >> 2;
+    switch (seed & 3) {
+    case 0: input[rest % HEAD] = (uint8_t)(rest >> 8); return length;
+    case 1: return HEAD + change_record(input + HEAD, length - HEAD, room - HEAD, rest);
+    default: return HEAD + LLVMFuzzerMutate(input + HEAD, length - HEAD, room - HEAD);
+    }
+}
