@@ -10,7 +10,7 @@ struct head {
     uint8_t mode;
     uint8_t table;              /* its length: from 240 a short table, else a full one with words beyond */
     uint8_t at[2];              /* the byte of the file that is changed */
-    uint8_t byte;               /* what it becomes; how far the file is filled */
+    uint8_t byte;               /* what it becomes; from 240: how far the file is filled */
     uint8_t seed[2];            /* of random words */
     uint8_t change[CHANGES][3]; /* of a table: row, and what is done there */
 };
@@ -26,7 +26,7 @@ enum {
     ONES = 16,
     RANDOM = 32,
     FINISHED = 48,
-    FILLED = 192 /* both bits: the file is filled up to about the longest size */
+    FILLED = 192 /* both bits, and a byte from 240: the file is filled up to about the longest size */
 };
 
 #endif

@@ -128,12 +128,12 @@ static size_t make_file(const struct head *head, const uint8_t *bytes, size_t le
         memcpy(file, bytes, length);
     else
         made = repair(bytes, length, !(head->mode & HALF), file);
-    if ((head->mode & FILLED) == FILLED && made < PEZVORAN_FILE_BYTES) {
+    if ((head->mode & FILLED) == FILLED && head->byte >= 240) {
         static const uint8_t throw_nothing[3] = {24, 0, 0}; /* a record that adds no fact */
-        size_t filled = PEZVORAN_FILE_BYTES - 16 + head->byte % 20;
+        size_t filled = PEZVORAN_FILE_BYTES - 8 + (head->byte - 240u);
         for (size_t i = made; i < filled; i++)
             file[i] = throw_nothing[(i - made) % sizeof throw_nothing];
-        made = filled;
+        made = filled > made ? filled : made;
     }
     if (head->mode & DAMAGED && made > 0)
         file[(head->at[0] | (size_t)head->at[1] << 8) % made] = head->byte;
