@@ -162,22 +162,34 @@ static void make_words(const struct head *head, const uint64_t *finished, size_t
     }
 }
 
-/* One change: a bit set or cleared, the lowest bit of the next row that has one cleared, or a word of zeros or ones. */
-static void change_words(const uint8_t change[3], uint64_t *words, size_t length)
+/* Takes a fact out of one of the four parts of a table, S, H, P and T, each as likely as the others: from the first row that has one, searched round
+   from some row on. */
+static void take_out(uint64_t *words, unsigned part, size_t from, unsigned which)
 {
-    if (length == 0)
-        return;
-    size_t row = (change[0] | (size_t)change[1] << 8) % length;
-    unsigned label = change[2] & 63;
+    const size_t parts[] = {0, pezvoran_property_row(0, 0), pezvoran_chain_row(0), pezvoran_thrown_row(0), PEZVORAN_TABLE_WORDS};
+    size_t rows = parts[part + 1] - parts[part];
+    for (size_t i = 0; i < rows; i++) {
+        uint64_t *word = &words[parts[part] + (from + i) % rows];
+        if (*word != 0) {
+            uint64_t fact = *word;
+            for (which %= (unsigned)__builtin_popcountll(*word); which > 0; which--)
+                fact &= fact - 1;
+            *word ^= fact & -fact;
+            return;
+        }
+    }
+}
+
+/* One change of a table: a fact taken out, a fact added, or a word of zeros or ones. */
+static void change_words(const uint8_t change[3], uint64_t *words)
+{
+    size_t row = change[0] | (size_t)change[1] << 8;
+    unsigned how = change[2] & 63;
     switch (change[2] >> 6) {
-    case 0: words[row] |= UINT64_C(1) << label; break;
-    case 1: words[row] &= ~(UINT64_C(1) << label); break;
-    case 2:
-        while (row < length - 1 && words[row] == 0)
-            row++;
-        words[row] &= words[row] - 1;
-        break;
-    default: words[row] = label % 2 == 0 ? 0 : UINT64_MAX;
+    case 0:
+    case 1: take_out(words, how & 3, row, how >> 2); break;
+    case 2: words[row % PEZVORAN_TABLE_WORDS] |= UINT64_C(1) << how; break;
+    default: words[row % PEZVORAN_TABLE_WORDS] = how % 2 == 0 ? 0 : UINT64_MAX;
     }
 }
 
@@ -223,15 +235,14 @@ int LLVMFuzzerTestOneInput(const uint8_t *input, size_t length)
     must_answer(call_check(&call, expected), of_left, "the check of the table left");
     must_answer(call_check(&call, expected), of_left, "the check of the table left, called again");
 
-    /* Tables with changes, one after the other: from the finished one, and from what the table held at the start. */
-    const uint64_t *const from[] = {expected, start};
-    for (int i = 0; i < 2; i++) {
-        memcpy(changed, from[i], sizeof changed);
-        for (int j = 0; j < CHANGES; j++) {
-            change_words(head.change[j], changed, call.table_length);
-            call_check(&call, changed);
-        }
+    /* Each change alone on the finished table, and all of them on what the table held at the start. */
+    for (int i = 0; i < CHANGES && call.table_length >= PEZVORAN_TABLE_WORDS; i++) {
+        memcpy(changed, expected, sizeof changed);
+        change_words(head.change[i], changed);
+        call_check(&call, changed);
+        change_words(head.change[i], start);
     }
+    call_check(&call, start);
     protect(file_page, PROT_READ | PROT_WRITE);
     return 0;
 }
