@@ -9,7 +9,7 @@ enum { HEAD = 16, CHANGES = 3 };
 struct head {
     uint8_t mode;
     uint8_t table;              /* its length: from 240 a short table, else a full one with words beyond */
-    uint8_t at[2];              /* the byte of the file that is changed */
+    uint8_t at[2];              /* the byte of the file that is changed; the highest bit: to a value at a border */
     uint8_t byte;               /* what it becomes; from 240: how far the file is filled */
     uint8_t seed[2];            /* of random words */
     uint8_t change[CHANGES][3]; /* of a table: row, and what is done there */

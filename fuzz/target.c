@@ -20,6 +20,9 @@ int LLVMFuzzerTestOneInput(const uint8_t *input, size_t length);
 
 enum { BEYOND = 8, PAGE = 65536, FILE_ROOM = PAGE, TABLE_ROOM = PAGE / 8 }; /* PAGE: a multiple of the usual page sizes */
 
+/* Values on both sides of the borders that document 01 draws. */
+static const uint8_t borders[] = {0, 1, 2, 3, 4, 5, 31, 32, 63, 64, 127, 128, 135, 136, 254, 255};
+
 static const uint16_t short_tables[16] = {0, 1, 2, 63, 64, 255, 256, 257, 1000, 2303, 2304, 2367, 2368, 2400, 2430, 2431};
 
 /* ---- what was seen, printed at the end */
@@ -134,8 +137,10 @@ static size_t make_file(const struct head *head, const uint8_t *bytes, size_t le
             file[i] = throw_nothing[(i - made) % sizeof throw_nothing];
         made = filled > made ? filled : made;
     }
-    if (head->mode & DAMAGED && made > 0)
-        file[(head->at[0] | (size_t)head->at[1] << 8) % made] = head->byte;
+    if (head->mode & DAMAGED && made > 0) {
+        size_t at = head->at[0] | (size_t)(head->at[1] & 127) << 8;
+        file[at % made] = head->at[1] & 128 ? borders[head->byte % sizeof borders] : head->byte;
+    }
     return made;
 }
 
