@@ -1,4 +1,4 @@
-/* How libFuzzer changes an input: a byte of the head, a whole record, or any bytes behind the head. */
+/* How libFuzzer changes an input: a field of the head, a whole record, or any bytes behind the head. */
 #include "input.h"
 #include "repair.h"
 
@@ -42,13 +42,24 @@ static size_t change_record(uint8_t *bytes, size_t length, size_t room, unsigned
     return length + size;
 }
 
+/* Gives one group of the head's bytes random values: mode, table, damage, seed, or one of the changes. */
+static void change_head(uint8_t *head, unsigned seed)
+{
+    static const uint8_t ends[] = {0, 1, 2, 5, 7, 10, 13, 16};
+    unsigned group = seed % (sizeof ends - 1);
+    for (unsigned i = ends[group]; i < ends[group + 1]; i++) {
+        seed = seed * 1103515245u + 12345u;
+        head[i] = (uint8_t)(seed >> 16);
+    }
+}
+
 size_t LLVMFuzzerCustomMutator(uint8_t *input, size_t length, size_t room, unsigned seed)
 {
     if (length <= HEAD || room <= HEAD)
         return LLVMFuzzerMutate(input, length, room);
     unsigned rest = seed >> 2;
     switch (seed & 3) {
-    case 0: input[rest % HEAD] = (uint8_t)(rest >> 8); return length;
+    case 0: change_head(input, rest); return length;
     case 1: return HEAD + change_record(input + HEAD, length - HEAD, room - HEAD, rest);
     default: return HEAD + LLVMFuzzerMutate(input + HEAD, length - HEAD, room - HEAD);
     }
