@@ -1,10 +1,10 @@
 -- The rules (document 01, "The rules"), each written once, beside the paper's line. S(v) is `variable v`, H(l,n) `property l n`, P(l) `chain l`,
 -- T(k) `thrown k`; a conclusion in S(0) is dropped (crate rules). L is the number of labels. Assumes nothing.
-use mathlib.Core.List.{List, [], _∷_, _++_, map}
-use mathlib.Core.Bool.{Bool, true, false, cond, not}
+use mathlib.Core.List.{List, [], _∷_, map}
+use mathlib.Core.Bool.{not}
 use Prim.Native.Nat.{ℕ, zero, suc}
 use Rattle.rows.specs.Row.{variable, property, chain, thrown}
-use Rattle.rules.specs.Rule.{Rule, none, give, include, each, over, both, _also_, when, every, chosen}
+use Rattle.rules.specs.Rule.{Rule, none, give, include, each, over, _also_, when, every, chosen}
 use Rattle.format.specs.Sheet.{Sheet, typeOf, declared, builtIn}
 use Rattle.program.specs.Statement as say
 use Rattle.program.specs.Program.{Program, Guest, noRecord, statements, namesOf, isFunction, thisOf, formalsOf, returnsOf}

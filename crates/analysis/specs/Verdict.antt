@@ -1,15 +1,10 @@
 -- The verdict (document 01, "The rules", last line): the least table of a program, the number of its facts, and whether it leaks. Assumes nothing.
-use mathlib.Core.Bool.{Bool, true, false, cond}
-use mathlib.Core.List.{List, [], _∷_}
 use Prim.Native.Nat.{ℕ}
 use lib.ListN.{getD}
 use lib.Bits.{bitAnd}
-use lib.Dec.{eqb}
-use lib.Count.{trailingZeros}
-use Rattle.rules.specs.Table.{Table, emptyTable, facts}
+use Rattle.rules.specs.Table.{Table, emptyTable}
 use Rattle.rules.specs.Round.{leastAbove}
-use Rattle.program.specs.Program.{Program, Guest, programOf}
-use Rattle.format.specs.Reading.{readFile}
+use Rattle.program.specs.Program.{Program, Guest}
 use Rattle.analysis.specs.Rules.{rules}
 
 -- "The fact set is the least one with ..", "the verdict starts from an empty table"

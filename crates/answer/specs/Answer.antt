@@ -1,5 +1,5 @@
 -- The outcome that an answer of the code stands for. Assumes nothing.
-use Prim.Native.Nat.{ℕ, _^_, _<_}
+use Prim.Native.Nat.{_^_, _<_}
 use Rattle.answer.specs.declared.Answer.{Answer}
 use Rattle.answer.specs.declared.Answer.the-variants.{Confined, Leaks, Refused, Accepted}
 use Rattle.answer.specs.Outcome.{Outcome, confined, leaks, refused, accepted}

@@ -11,7 +11,7 @@ use Rattle.rules.specs.Table.{Table, Has, Small, emptyTable, facts}
 use Rattle.rules.specs.Told.{Derives}
 use Rattle.format.specs.Reading.{Readable, Concatenation}
 use Rattle.analysis.specs.Rules.{rules}
-use Rattle.answer.specs.Outcome.{Outcome, refused, countOf}
+use Rattle.answer.specs.Outcome.{refused, countOf}
 use Rattle.verdicts.specs.Verdict.{verdictOutcome, verdictTable, programIn, Leaks, Confined}
 use Rattle.verdicts.specs.Check.{Accepts}
 use Rattle.soundness.specs.Confined as machine

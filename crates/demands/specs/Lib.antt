@@ -1,1 +1,2 @@
+-- The customer's three demands, as statements.
 pub mod Demands

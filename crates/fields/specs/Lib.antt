@@ -1,1 +1,2 @@
+-- What the test of a field goes by.
 pub mod Judging

@@ -1,13 +1,13 @@
 -- Records: what is refused of a whole one, and what a good one makes of the sheet (document 01, "The statement file").
 -- Assumes nothing.
-use mathlib.Core.List.{List, [], _∷_}
+use mathlib.Core.List.{List}
 use mathlib.Core.Path.{_≡_}
-use mathlib.Core.Bool.{Bool, true, false, cond, not, _&&_}
-use Prim.Native.Nat.{ℕ, _+_, _<_}
-use lib.ListN.{length, getD, drop}
+use mathlib.Core.Bool.{Bool, false, cond, not, _&&_}
+use Prim.Native.Nat.{ℕ, _<_}
+use lib.ListN.{getD, drop}
 use lib.Dec.{eqb}
 use Rattle.layout.specs.Layout.{fieldsOf, bodyLength}
-use Rattle.format.specs.Sheet.{Sheet, typeOf, ownerOf, known, declared, withMask, withLabel, withForbidden, withFunction, withVariable, withReturned}
+use Rattle.format.specs.Sheet.{Sheet, known, declared, withMask, withLabel, withForbidden, withFunction, withVariable, withReturned}
 use Rattle.format.specs.Fields.{Fits, firstBad}
 
 -- "one byte of kind, then a body"

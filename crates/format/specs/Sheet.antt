@@ -1,7 +1,7 @@
 -- The declaration sheet: what the records read so far declare (document 01, "Table and sheet"). L is the number of labels.
 -- Assumes nothing.
 use mathlib.Core.List.{List, [], _∷_, _++_}
-use mathlib.Core.Bool.{Bool, not, _&&_, _||_}
+use mathlib.Core.Bool.{Bool, not}
 use Prim.Native.Nat.{ℕ, _+_, _-_, _*_, _/_, _%_, _^_}
 use lib.ListN.{getD, set, replicate}
 use lib.Seq.{paste}

@@ -1,1 +1,2 @@
+-- The table of record kinds.
 pub mod Layout

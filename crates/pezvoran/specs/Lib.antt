@@ -1,1 +1,2 @@
+-- What the operations promise, by the definitions of the crate verdicts.
 pub mod Judgment

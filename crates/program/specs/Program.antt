@@ -1,13 +1,13 @@
 -- A program: the declarations, the host's statements and the guests. Rules and machine are both defined over it. Assumes nothing.
 use mathlib.Core.List.{List, [], _∷_, _++_, map}
-use mathlib.Core.Bool.{Bool, true, false, cond, _&&_}
+use mathlib.Core.Bool.{Bool, cond}
 use Prim.Native.Nat.{ℕ, _+_, _-_, _*_, _/_, _%_, _^_}
 use lib.ListN.{getD, take, drop, replicate}
 use lib.Dec.{eqb, ltb}
 use Rattle.rules.specs.Rule.{chosen}
-use Rattle.format.specs.Sheet.{Sheet, typeOf, builtIn}
+use Rattle.format.specs.Sheet.{Sheet, typeOf}
 use Rattle.format.specs.Records.{Record}
-use Rattle.format.specs.Reading.{Reading, readFile}
+use Rattle.format.specs.Reading.{Reading}
 use Rattle.program.specs.Statement.{Statement, load, store, makeFunction, call, new, return, throw, catch, bag, statementsOf}
 
 -- a guest: the label of whatever it makes, the variable that is its bag, the key it may use, and the labels forbidden to it

@@ -1,7 +1,7 @@
 -- Statements: what the records of kinds 5 to 8 and 16 to 26 say (document 01, "The statement file"). A kind of record that says something new is
 -- a constructor here, a line of `statementsOf`, a rule in the crate analysis and a step in the crate machine. Assumes nothing.
 use mathlib.Core.List.{List, [], _∷_}
-use mathlib.Core.Bool.{Bool, true, false, cond}
+use mathlib.Core.Bool.{cond}
 use Prim.Native.Nat.{ℕ}
 use lib.ListN.{drop}
 use lib.Dec.{eqb}

@@ -15,4 +15,3 @@ pub mod Find
 pub mod Premises
 pub mod Beyond
 pub mod Resume
-pub mod Skip

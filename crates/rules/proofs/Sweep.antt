@@ -1,5 +1,5 @@
--- Work in place: a table reached by steps that the rule bears out, and closed, is the least table above the start. So a loop that
--- sweeps until nothing is added leaves that table, whatever order the sweep takes. The laws make the promise of a function for
+-- Work in place: a table reached by steps that the rule bears out, and closed, is the least table above the start, whatever the order
+-- of the steps. The laws make the promise of a function for
 -- a rule out of those of the functions that it calls. Assumes nothing.
 use mathlib.Core.Path.{_≡_, refl, sym, _∙_, subst}
 use mathlib.Core.Logic.{_⊎_, inl, inr}
@@ -163,14 +163,6 @@ sweeps-both {L} {p} {q} {t} {u} {v} {a} {b} first second =
     more (inl e) = omega (arith, first .more e, reaches-facts (second .reaches))
     more (inr e) = omega (arith, second .more e, reaches-facts (first .reaches))
 
--- the two the other way round
-pub both-swap : {L : ℕ} {p q : Rule} {t u : Table} {grew : Bool} → Sweeps L (both p q) t u grew → Sweeps L (both q p) t u grew
-both-swap s = sweeps-for (λ v w c. (c .1, c .0)) (λ c. (c .1, c .0)) s
-
--- of three: `a | b | c` in the code groups to the left, and `also` in the rules to the right
-pub both-regroup : {L : ℕ} {p q o : Rule} {t u : Table} {grew : Bool} → Sweeps L (both (both p q) o) t u grew → Sweeps L (both p (both q o)) t u grew
-both-regroup s = sweeps-for (λ v w c. ((c .0, c .1 .0), c .1 .1)) (λ c. (c .0 .0, (c .0 .1, c .1))) s
-
 -- where the test holds, and where it does not
 pub when-on : {L : ℕ} {p : Rule} {t u : Table} {grew : Bool} (b : Bool) → b ≡ true → Sweeps L p t u grew → Sweeps L (when b p) t u grew
 when-on b e s = rw e s
@@ -233,45 +225,14 @@ pub include-rows : {L : ℕ} {t u : Table} {grew : Bool} (y x z w : Row) → num
     → Sweeps L (include y x) t u grew → Sweeps L (include z w) t u grew
 include-rows y x z w e d s = sweeps-for (λ v i c. rw (e, d) c) (λ c. rw (← e, ← d) c) s
 
--- ---- sweeps until one adds nothing
-
-pub sweeps-closed : {L : ℕ} {p : Rule} {t u : Table} {grew : Bool} → Sweeps L p t u grew → grew ≡ false → Closed L u p
-sweeps-closed {L} {p} {t} {u} s e = heeds-closed L u p (subst (λ (x : Table). Heeds L x u p) (sym (s .still e)) (s .heeds))
-
--- how far the loop `while again { again = sweep(t); }` has come from t to u
-pub record Repeats (L : ℕ) (p : Rule) (t u : Table) (again : Bool) : Type 0 where
-  pub reaches : Reaches L p t u
-  pub closed : again ≡ false → Closed L u p
-
-pub repeats-start : {L : ℕ} {p : Rule} {t : Table} → Repeats L p t t true
-repeats-start = record { reaches = reaches-itself; closed = λ e. not-true (sym e) }
-
-pub repeats-again : {L : ℕ} {p : Rule} {t u v : Table} {again grew : Bool} → Repeats L p t u again → Sweeps L p u v grew → Repeats L p t v grew
-repeats-again a s = record { reaches = reaches-on (a .reaches) (s .reaches); closed = λ e. sweeps-closed s e }
-
--- the loop's end
-pub repeats-least : {L : ℕ} {p : Rule} {t u : Table} {again : Bool} → Fits L p → Shaped L t → again ≡ false → Repeats L p t u again → u ≡ leastAbove L p t
-repeats-least fits s e a = reaches-least fits s (a .reaches) (a .closed e)
+-- ---- what falls while work adds facts
 
 -- for how many more facts there is room
 unfoldable pub room : ℕ → Table → ℕ
 unfolding facts
 room L t = L * rowCount L - facts L t
 
--- the same, and one turn more while the last sweep added something
+-- the same, and one turn more while the last pass added something
 abbrev pub left : ℕ → Bool → Table → ℕ
 left L true t = suc (room L t)
 left L false t = 0
-
--- what falls with every turn, where the loop is left as soon as a sweep adds nothing
-pub room-less : {L : ℕ} {p : Rule} {t u : Table} {grew : Bool} → grew ≡ true → Sweeps L p t u grew → room L u < room L t
-unfolding room
-room-less {L} {p} {t} {u} e s = omega (arith, s .more e, facts-room L u)
-
--- what falls with every turn of `while again { again = sweep(t); }`
-pub left-less : {L : ℕ} {p : Rule} {t u : Table} {again grew : Bool} → again ≡ true → Sweeps L p t u grew → left L grew u < left L again t
-left-less {L} {p} {t} {u} {again} {grew} e s = rw e (go grew refl)
-  where
-    go : (b : Bool) → grew ≡ b → left L b u < left L true t
-    go true g = omega (arith, room-less g s)
-    go false g = omega arith
