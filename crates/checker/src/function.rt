@@ -1,18 +1,19 @@
 // Calls, new and prim: the rules of functions.
 ghost use mathlib.Core.Path.{_≡_};
 ghost use mathlib.Core.List.{[]};
-ghost use Prim.Native.Nat.{_<_, _≤_};
+ghost use Prim.Native.Nat.{_<_, _≤_, min};
 ghost use lib.ListN.{length};
-ghost use lib.Dec.{eqb};
-ghost use Rattle.rows.specs.Row.{variable, thrown};
-ghost use Rattle.rules.specs.Rule.{include, over, when, _also_};
+ghost use Rattle.rows.specs.Row.{variable};
+ghost use Rattle.rules.specs.Rule.{include, _also_};
 ghost use Rattle.rules.specs.Gap.{Finds};
-ghost use Rattle.program.specs.Program.{thisOf, formalsOf, returnsOf};
-ghost use Rattle.analysis.specs.Rules.{passing, entering, calling, making, converting};
+ghost use Rattle.program.specs.Program.{thisOf, formalsOf};
+ghost use Rattle.analysis.specs.Rules.{passing, calling, making, converting};
 ghost use Rattle.statements.specs.Desk.{desk};
 ghost use Rattle.checker.specs.Seen.{seen};
-use crate::gather::found;
+ghost use Rattle.checker.specs.Kept.{Chains, Hurled, Gaps, Handed};
 use crate::gather::gather;
+use crate::gather::pick;
+use crate::keep::functions_of;
 use crate::row::look_give;
 use crate::row::look_include;
 use crate::row::look_word;
@@ -41,71 +42,31 @@ fn pass_arguments(
     best
 }
 
-// S(y) includes what returns in scope f hand back: the union of four words of variables.
-fn look_returns(t: &[u64], d: u64, returned: &[u64; 256], f: usize, y: usize, low: usize) -> usize
-    requires { ⌜ (2432 ≤ length (now t)) × (f < 64) × (y < 256) ⌝ }
-    ensures { λ r. ⌜ Finds 64 (seen d (now (t .entry))) (over (returnsOf (desk [] [] [] [] (now (returned .entry))) f) (λ x. include (variable y) (variable x))) low r ⌝ }
-{
-    let first = gather(t, d, returned[4 * f], 0);
-    let second = gather(t, d, returned[4 * f + 1], 64);
-    let third = gather(t, d, returned[4 * f + 2], 128);
-    let fourth = gather(t, d, returned[4 * f + 3], 192);
-    let all = words::join(words::join(first, second), words::join(third, fourth));
-    look_word(t, d, y, all, low)
-}
-
-// Function f called in scope k.
-fn enter<'a>(
+// What function f is handed: its this variable includes S(this), each formal its argument.
+fn enter(
     t: &[u64],
     d: u64,
-    formals: &'a [u8; 448],
-    returned: &'a [u64; 256],
-    k: usize,
-    y: usize,
+    formals: &[u8; 448],
     this: usize,
     args: &[u8],
     f: usize,
     low: usize,
 ) -> usize
-    requires { ⌜ (2432 ≤ length (now t)) × (k < 64) × (y < 256) × (this < 256) × (length (now args) ≡ 6) × (f < 64) × (length (now formals) ≡ 448) ⌝ }
-    ensures { λ r. ⌜ Finds 64 (seen d (now (t .entry))) (entering (desk [] [] (now (formals .entry)) [] (now (returned .entry))) k y this (now (args .entry)) f) low r ⌝ }
+    requires { ⌜ (2432 ≤ length (now t)) × (this < 256) × (length (now args) ≡ 6) × (f < 64) × (length (now formals) ≡ 448) ⌝ }
+    ensures { λ r. ⌜ Finds 64 (seen d (now (t .entry))) (include (variable (thisOf (desk [] [] (now (formals .entry)) [] [] .sheet) f)) (variable this) also passing (desk [] [] (now (formals .entry)) [] []) (formalsOf (desk [] [] (now (formals .entry)) [] [] .sheet) f) (now (args .entry))) low r ⌝ }
 {
     let one = look_include(t, d, wide(formals[7 * f]), this, low);
-    let two = pass_arguments(t, d, formals, args, f, one);
-    let three = look_returns(t, d, returned, f, y, two);
-    look_include(t, d, 2368 + k, 2368 + f, three)
+    pass_arguments(t, d, formals, args, f, one)
 }
 
-// f is called, where it is a function.
-fn enter_function<'a>(
-    t: &[u64],
-    d: u64,
-    kind: u8,
-    formals: &'a [u8; 448],
-    returned: &'a [u64; 256],
-    k: usize,
-    y: usize,
-    this: usize,
-    args: &[u8],
-    f: usize,
-    low: usize,
-) -> usize
-    requires { ⌜ (2432 ≤ length (now t)) × (k < 64) × (y < 256) × (this < 256) × (length (now args) ≡ 6) × (f < 64) × (length (now formals) ≡ 448) ⌝ }
-    ensures { λ r. ⌜ Finds 64 (seen d (now (t .entry))) (when (eqb kind 2) (entering (desk [] [] (now (formals .entry)) [] (now (returned .entry))) k y this (now (args .entry)) f)) low r ⌝ }
-{
-    if kind != 2 {
-        return low;
-    }
-    enter(t, d, formals, returned, k, y, this, args, f, low)
-}
-
-// 21: call y, callee, this, arguments, in scope k.
+// 21: call y, callee, this, arguments, in scope k. What the functions hand back and what they throw is looked for at once.
 pub fn call<'a>(
     t: &[u64],
     d: u64,
     types: &'a [u8; 64],
     formals: &'a [u8; 448],
     returned: &'a [u64; 256],
+    handed: &[u64; 64],
     k: usize,
     y: usize,
     callee: usize,
@@ -113,17 +74,20 @@ pub fn call<'a>(
     args: &[u8],
     low: usize,
 ) -> usize
-    requires { ⌜ (2432 ≤ length (now t)) × (k < 64) × (y < 256) × (callee < 256) × (this < 256) × (length (now args) ≡ 6) × (length (now formals) ≡ 448) ⌝ }
+    requires { ⌜ (2432 ≤ length (now t)) × (k < 64) × (y < 256) × (callee < 256) × (this < 256) × (length (now args) ≡ 6) × (length (now formals) ≡ 448) × (Handed (seen d (now t)) (now returned) (now handed)) ⌝ }
     ensures { λ r. ⌜ Finds 64 (seen d (now (t .entry))) (calling (desk (now (types .entry)) [] (now (formals .entry)) [] (now (returned .entry))) k y callee this (now (args .entry))) low r ⌝ }
 {
-    let w = row_at(t, d, callee);
+    let fs = functions_of(types, row_at(t, d, callee));
     let mut best = low;
-    let mut f = words::next(w, 0);
+    let mut f = words::next(fs, 0);
     while f < 64 {
-        best = enter_function(t, d, types[f], formals, returned, k, y, this, args, f, best);
-        f = words::next(w, f + 1);
+        best = enter(t, d, formals, this, args, f, best);
+        f = words::next(fs, f + 1);
     }
-    best
+    let back = pick(handed, fs, 0);
+    let out = gather(t, d, fs, 2368);
+    let two = look_word(t, d, y, back, best);
+    look_word(t, d, 2368 + k, out, two)
 }
 
 // 22: new y, callee, t, l, arguments, in scope k.
@@ -133,6 +97,8 @@ pub fn make_new<'a>(
     types: &'a [u8; 64],
     formals: &'a [u8; 448],
     returned: &'a [u64; 256],
+    chains: &[u64; 256],
+    handed: &[u64; 64],
     k: usize,
     y: usize,
     callee: usize,
@@ -141,18 +107,19 @@ pub fn make_new<'a>(
     args: &[u8],
     low: usize,
 ) -> usize
-    requires { ⌜ (2432 ≤ length (now t)) × (k < 64) × (y < 256) × (callee < 256) × (this < 256) × (l < 64) × (length (now args) ≡ 6) × (length (now formals) ≡ 448) ⌝ }
+    requires { ⌜ (2432 ≤ length (now t)) × (k < 64) × (y < 256) × (callee < 256) × (this < 256) × (l < 64) × (length (now args) ≡ 6) × (length (now formals) ≡ 448) × (Chains (seen d (now t)) (now chains)) × (Handed (seen d (now t)) (now returned) (now handed)) ⌝ }
     ensures { λ r. ⌜ Finds 64 (seen d (now (t .entry))) (making (desk (now (types .entry)) [] (now (formals .entry)) [] (now (returned .entry))) k y callee this l (now (args .entry))) low r ⌝ }
 {
     let one = look_give(t, d, this, l, low);
     let two = look_include(t, d, y, this, one);
-    let three = prototypes(t, d, callee, l, two);
+    let three = prototypes(t, d, chains, callee, l, two);
     call(
         t,
         d,
         types,
         formals,
         returned,
+        handed,
         k,
         y,
         callee,
@@ -162,46 +129,31 @@ pub fn make_new<'a>(
     )
 }
 
-// f is called with S(x) as this by a prim in scope k, where it is a function.
-fn convert_by(
-    t: &[u64],
-    d: u64,
-    kind: u8,
-    formals: &[u8; 448],
-    k: usize,
-    x: usize,
-    f: usize,
-    low: usize,
-) -> usize
-    requires { ⌜ (2432 ≤ length (now t)) × (k < 64) × (x < 256) × (f < 64) ⌝ }
-    ensures { λ r. ⌜ Finds 64 (seen d (now (t .entry))) (when (eqb kind 2) (include (variable (thisOf (desk [] [] (now (formals .entry)) [] [] .sheet) f)) (variable x) also include (thrown k) (thrown f))) low r ⌝ }
+// The lower of two rows.
+fn lower_of(row: usize, low: usize) -> usize
+    ensures { λ r. ⌜ r ≡ min row low ⌝ }
 {
-    if kind != 2 {
-        return low;
+    if row < low {
+        return row;
     }
-    let best = look_include(t, d, wide(formals[7 * f]), x, low);
-    look_include(t, d, 2368 + k, 2368 + f, best)
+    low
 }
 
-// 26: prim on object x, in scope k.
+// 26: prim on object x, in scope k: by the gap and the throws that are kept for S(x).
 pub fn convert<'a>(
     t: &[u64],
     d: u64,
     types: &'a [u8; 64],
     formals: &'a [u8; 448],
+    hurled: &[u64; 256],
+    gaps: &[usize; 256],
     k: usize,
     x: usize,
     low: usize,
 ) -> usize
-    requires { ⌜ (2432 ≤ length (now t)) × (k < 64) × (x < 256) ⌝ }
+    requires { ⌜ (2432 ≤ length (now t)) × (k < 64) × (x < 256) × (Hurled (seen d (now t)) (now types) (now hurled)) × (Gaps (seen d (now t)) (now types) (now formals) (now gaps)) ⌝ }
     ensures { λ r. ⌜ Finds 64 (seen d (now (t .entry))) (converting (desk (now (types .entry)) [] (now (formals .entry)) [] []) k x) low r ⌝ }
 {
-    let fs = found(t, d, row_at(t, d, x), 6);
-    let mut best = low;
-    let mut f = words::next(fs, 0);
-    while f < 64 {
-        best = convert_by(t, d, types[f], formals, k, x, f, best);
-        f = words::next(fs, f + 1);
-    }
-    best
+    let best = lower_of(gaps[x], low);
+    look_word(t, d, 2368 + k, hurled[x], best)
 }

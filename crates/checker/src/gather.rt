@@ -1,9 +1,15 @@
 // Unions of rows, collected in a word.
+ghost use mathlib.Core.List.{[], _∷_};
 ghost use Prim.Native.Nat.{_+_, _<_, _≤_};
 ghost use lib.ListN.{length};
-ghost use Rattle.tables.specs.Sets.{Gathered, Properties, Found};
+ghost use Rattle.program.specs.Program.{namesOf};
+ghost use Rattle.tables.specs.Sets.{Gathered, Properties};
+ghost use Rattle.statements.specs.Desk.{desk};
+ghost use Rattle.statements.specs.Range.{Key};
 ghost use Rattle.checker.specs.Seen.{seen};
+ghost use Rattle.checker.specs.Kept.{Under, Unions};
 use crate::view::row_at;
+use tables::wide;
 
 // The union of the rows of the labels ls, counted from row `base`.
 pub fn gather(t: &[u64], d: u64, ls: u64, base: usize) -> u64
@@ -34,11 +40,42 @@ pub fn properties(t: &[u64], d: u64, ms: u64, names: u64) -> u64
     all
 }
 
-// What a load finds under the names, from objects of the labels ls: the chains first, then the properties.
-pub fn found(t: &[u64], d: u64, ls: u64, names: u64) -> u64
-    requires { ⌜ 2432 ≤ length (now t) ⌝ }
-    ensures { λ r. ⌜ Found (seen d (now (t .entry))) ls names r ⌝ }
+// The union of the words of the labels ls, counted from place `at`.
+pub fn pick(kept: &[u64], ls: u64, at: usize) -> u64
+    requires { ⌜ at + 64 ≤ length (now kept) ⌝ }
+    ensures { λ r. ⌜ Gathered (now (kept .entry)) ls at r ⌝ }
 {
-    let chains = gather(t, d, ls, 2304);
-    properties(t, d, chains, names)
+    let mut all: u64 = 0;
+    let mut l = words::next(ls, 0);
+    while l < 64 {
+        all = words::join(all, kept[at + l]);
+        l = words::next(ls, l + 1);
+    }
+    all
+}
+
+// The union of H(m,n) for the labels ms, n being one name.
+pub fn under_name(t: &[u64], d: u64, ms: u64, n: usize) -> u64
+    requires { ⌜ (2432 ≤ length (now t)) × (n < 32) ⌝ }
+    ensures { λ r. ⌜ Under (seen d (now (t .entry))) ms (n ∷ []) r ⌝ }
+{
+    let mut all: u64 = 0;
+    let mut m = words::next(ms, 0);
+    while m < 64 {
+        all = words::join(all, row_at(t, d, 256 + 32 * m + n));
+        m = words::next(ms, m + 1);
+    }
+    all
+}
+
+// The union of H(m,n) for the labels ms and the names n of a key: those of a class have their unions.
+pub fn under_key(t: &[u64], d: u64, masks: &[u8; 32], unions: &[u64; 512], ms: u64, key: u8) -> u64
+    requires { ⌜ (2432 ≤ length (now t)) × Key key × (Unions (seen d (now t)) (now masks) (now unions)) ⌝ }
+    ensures { λ r. ⌜ Under (seen d (now (t .entry))) ms (namesOf (desk [] [] [] (now (masks .entry)) [] .sheet) key) r ⌝ }
+{
+    let k = wide(key);
+    if k < 128 {
+        return under_name(t, d, ms, k);
+    }
+    pick(unions, ms, 64 * (k - 128))
 }

@@ -14,16 +14,22 @@ mod chain;
 mod function;
 mod gather;
 mod guest;
+mod keep;
 mod pass;
 mod record;
 mod row;
 mod rule;
 mod view;
 
-use crate::chain::look_chains;
-use crate::chain::look_guest_chain;
-use crate::guest::look_guest;
-use crate::pass::look_records;
+use crate::keep::keep_chains;
+use crate::keep::keep_gaps;
+use crate::keep::keep_handed;
+use crate::keep::keep_hurled;
+use crate::keep::keep_meets;
+use crate::keep::keep_methods;
+use crate::keep::keep_names;
+use crate::keep::keep_unions;
+use crate::pass::look_all;
 use crate::view::declared_word;
 use sheet::Sheet;
 
@@ -34,19 +40,23 @@ pub fn lowest_gap(file: &[u8], sheet: Sheet, table: &[u64]) -> usize
     ensures { λ r. ⌜ r ≡ gap 64 (cleaned 64 (readFile 64 (now (file .entry)) .sheet) (now (table .entry))) (rules 64 (programOf (readFile 64 (now (file .entry))))) ⌝ }
 {
     let d = declared_word(&sheet.types);
-    let one = look_chains(table, d, &sheet.types, 2432);
-    let two = look_guest_chain(table, d, one);
-    let three = look_guest(
-        table,
-        d,
-        &sheet.types,
-        &sheet.flags,
-        &sheet.formals,
-        &sheet.masks,
-        &sheet.returned,
-        two,
-    );
-    look_records(
+    let mut words = [0u64; 8];
+    keep_names(&sheet.masks, &mut words);
+    let mut unions = [0u64; 512];
+    keep_unions(table, d, &words, &mut unions);
+    let mut meets = [0u64; 512];
+    keep_meets(table, d, &words, &mut meets);
+    let mut chains = [0u64; 256];
+    keep_chains(table, d, &mut chains);
+    let mut methods = [0u64; 256];
+    keep_methods(table, d, &sheet.types, &chains, &mut methods);
+    let mut hurled = [0u64; 256];
+    keep_hurled(table, d, &methods, &mut hurled);
+    let mut gaps = [0usize; 256];
+    keep_gaps(table, d, &sheet.formals, &methods, &mut gaps);
+    let mut handed = [0u64; 64];
+    keep_handed(table, d, &sheet.returned, &mut handed);
+    look_all(
         file,
         table,
         d,
@@ -55,6 +65,12 @@ pub fn lowest_gap(file: &[u8], sheet: Sheet, table: &[u64]) -> usize
         &sheet.formals,
         &sheet.masks,
         &sheet.returned,
-        three,
+        &words,
+        &unions,
+        &meets,
+        &chains,
+        &hurled,
+        &gaps,
+        &handed,
     )
 }

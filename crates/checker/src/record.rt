@@ -7,6 +7,7 @@ ghost use Rattle.rules.specs.Gap.{Finds};
 ghost use Rattle.statements.specs.Desk.{desk, recordRule};
 ghost use Rattle.statements.specs.Range.{InRange};
 ghost use Rattle.checker.specs.Seen.{seen};
+ghost use Rattle.checker.specs.Kept.{Names, Unions, Meets, Chains, Hurled, Gaps, Handed, Kept};
 use crate::function::call;
 use crate::function::convert;
 use crate::function::make_new;
@@ -73,14 +74,22 @@ fn copy_record(t: &[u64], d: u64, body: &[u8], low: usize) -> usize
 }
 
 // 17: load k, y, object, key, w.
-fn load_record(t: &[u64], d: u64, masks: &[u8; 32], body: &[u8], low: usize) -> usize
-    requires { ⌜ (2432 ≤ length (now t)) × InRange 17 (now body) ⌝ }
+fn load_record(
+    t: &[u64],
+    d: u64,
+    masks: &[u8; 32],
+    unions: &[u64; 512],
+    chains: &[u64; 256],
+    body: &[u8],
+    low: usize,
+) -> usize
+    requires { ⌜ (2432 ≤ length (now t)) × InRange 17 (now body) × (Unions (seen d (now t)) (now masks) (now unions)) × (Chains (seen d (now t)) (now chains)) ⌝ }
     ensures { λ r. ⌜ Finds 64 (seen d (now (t .entry))) (recordRule (desk [] [] [] (now (masks .entry)) []) 17 (now (body .entry))) low r ⌝ }
 {
     let y = wide(body[1]);
     let x = wide(body[2]);
     let w = wide(body[4]);
-    load(t, d, masks, y, x, body[3], w, low)
+    load(t, d, masks, unions, chains, y, x, body[3], w, low)
 }
 
 // 18: store k, object, key, value.
@@ -89,15 +98,17 @@ fn store_record<'a>(
     d: u64,
     flags: &'a [u8; 64],
     masks: &'a [u8; 32],
+    words: &[u64; 8],
+    meets: &[u64; 512],
     body: &[u8],
     low: usize,
 ) -> usize
-    requires { ⌜ (2432 ≤ length (now t)) × InRange 18 (now body) ⌝ }
+    requires { ⌜ (2432 ≤ length (now t)) × InRange 18 (now body) × (Names (now masks) (now words)) × (Meets (seen d (now t)) (now words) (now meets)) ⌝ }
     ensures { λ r. ⌜ Finds 64 (seen d (now (t .entry))) (recordRule (desk [] (now (flags .entry)) [] (now (masks .entry)) []) 18 (now (body .entry))) low r ⌝ }
 {
     let x = wide(body[1]);
     let a = wide(body[3]);
-    store(t, d, flags, masks, x, body[2], a, low)
+    store(t, d, flags, masks, words, meets, x, body[2], a, low)
 }
 
 // 19: make k, y, l.
@@ -127,10 +138,11 @@ fn call_record<'a>(
     types: &'a [u8; 64],
     formals: &'a [u8; 448],
     returned: &'a [u64; 256],
+    handed: &[u64; 64],
     body: &[u8],
     low: usize,
 ) -> usize
-    requires { ⌜ (2432 ≤ length (now t)) × InRange 21 (now body) × (length (now formals) ≡ 448) ⌝ }
+    requires { ⌜ (2432 ≤ length (now t)) × InRange 21 (now body) × (length (now formals) ≡ 448) × (Handed (seen d (now t)) (now returned) (now handed)) ⌝ }
     ensures { λ r. ⌜ Finds 64 (seen d (now (t .entry))) (recordRule (desk (now (types .entry)) [] (now (formals .entry)) [] (now (returned .entry))) 21 (now (body .entry))) low r ⌝ }
 {
     let k = wide(body[0]);
@@ -143,6 +155,7 @@ fn call_record<'a>(
         types,
         formals,
         returned,
+        handed,
         k,
         y,
         callee,
@@ -159,10 +172,12 @@ fn new_record<'a>(
     types: &'a [u8; 64],
     formals: &'a [u8; 448],
     returned: &'a [u64; 256],
+    chains: &[u64; 256],
+    handed: &[u64; 64],
     body: &[u8],
     low: usize,
 ) -> usize
-    requires { ⌜ (2432 ≤ length (now t)) × InRange 22 (now body) × (length (now formals) ≡ 448) ⌝ }
+    requires { ⌜ (2432 ≤ length (now t)) × InRange 22 (now body) × (length (now formals) ≡ 448) × (Chains (seen d (now t)) (now chains)) × (Handed (seen d (now t)) (now returned) (now handed)) ⌝ }
     ensures { λ r. ⌜ Finds 64 (seen d (now (t .entry))) (recordRule (desk (now (types .entry)) [] (now (formals .entry)) [] (now (returned .entry))) 22 (now (body .entry))) low r ⌝ }
 {
     let k = wide(body[0]);
@@ -176,6 +191,8 @@ fn new_record<'a>(
         types,
         formals,
         returned,
+        chains,
+        handed,
         k,
         y,
         callee,
@@ -212,15 +229,17 @@ fn prim_record<'a>(
     d: u64,
     types: &'a [u8; 64],
     formals: &'a [u8; 448],
+    hurled: &[u64; 256],
+    gaps: &[usize; 256],
     body: &[u8],
     low: usize,
 ) -> usize
-    requires { ⌜ (2432 ≤ length (now t)) × InRange 26 (now body) ⌝ }
+    requires { ⌜ (2432 ≤ length (now t)) × InRange 26 (now body) × (Hurled (seen d (now t)) (now types) (now hurled)) × (Gaps (seen d (now t)) (now types) (now formals) (now gaps)) ⌝ }
     ensures { λ r. ⌜ Finds 64 (seen d (now (t .entry))) (recordRule (desk (now (types .entry)) [] (now (formals .entry)) [] []) 26 (now (body .entry))) low r ⌝ }
 {
     let k = wide(body[0]);
     let x = wide(body[1]);
-    convert(t, d, types, formals, k, x, low)
+    convert(t, d, types, formals, hurled, gaps, k, x, low)
 }
 
 // The rules of a record, by its kind.
@@ -232,11 +251,18 @@ pub fn look_record<'a>(
     formals: &'a [u8; 448],
     masks: &'a [u8; 32],
     returned: &'a [u64; 256],
+    words: &[u64; 8],
+    unions: &[u64; 512],
+    meets: &[u64; 512],
+    chains: &[u64; 256],
+    hurled: &[u64; 256],
+    gaps: &[usize; 256],
+    handed: &[u64; 64],
     kind: u8,
     body: &[u8],
     low: usize,
 ) -> usize
-    requires { ⌜ (2432 ≤ length (now t)) × InRange kind (now body) × (length (now formals) ≡ 448) ⌝ }
+    requires { ⌜ (2432 ≤ length (now t)) × InRange kind (now body) × (length (now formals) ≡ 448) × Kept (seen d (now t)) (now types) (now formals) (now masks) (now returned) (now words) (now unions) (now meets) (now chains) (now hurled) (now gaps) (now handed) ⌝ }
     ensures { λ r. ⌜ Finds 64 (seen d (now (t .entry))) (recordRule (desk (now (types .entry)) (now (flags .entry)) (now (formals .entry)) (now (masks .entry)) (now (returned .entry))) kind (now (body .entry))) low r ⌝ }
 {
     match kind {
@@ -245,15 +271,15 @@ pub fn look_record<'a>(
         7 => property_record(t, d, body, low),
         8 => held_record(t, d, body, low),
         16 => copy_record(t, d, body, low),
-        17 => load_record(t, d, masks, body, low),
-        18 => store_record(t, d, flags, masks, body, low),
+        17 => load_record(t, d, masks, unions, chains, body, low),
+        18 => store_record(t, d, flags, masks, words, meets, body, low),
         19 => make_record(t, d, body, low),
         20 => function_record(t, d, body, low),
-        21 => call_record(t, d, types, formals, returned, body, low),
-        22 => new_record(t, d, types, formals, returned, body, low),
+        21 => call_record(t, d, types, formals, returned, handed, body, low),
+        22 => new_record(t, d, types, formals, returned, chains, handed, body, low),
         24 => throw_record(t, d, body, low),
         25 => catch_record(t, d, body, low),
-        26 => prim_record(t, d, types, formals, body, low),
+        26 => prim_record(t, d, types, formals, hurled, gaps, body, low),
         _ => low,
     }
 }

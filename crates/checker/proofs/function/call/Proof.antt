@@ -1,36 +1,39 @@
--- A call for each label of the callee: the invariant is that those below f were looked at. Assumes nothing.
+-- The arguments for each function of the callee: the invariant is that those below f were looked at. Then what they hand back and throw. Assumes nothing.
 use borrow.Author.Needs.{needs}
-use mathlib.Core.Path.{_≡_}
+use mathlib.Core.Path.{_≡_, ap, _∙_}
 use mathlib.Core.List.{[]}
-use Prim.Native.Nat.{_-_, _≤_, _<_}
+use Prim.Native.Nat.{ℕ, _+_, _-_, _≤_, _<_}
 use native.Mathlib.Omega.{arith}
-use lib.ListN.{getD}
-use lib.Dec.{eqb}
 use Rattle.words.proofs.Bits.{On}
 use Rattle.rows.specs.Row.{variable}
-use Rattle.rules.specs.Rule.{over, when}
+use Rattle.rules.specs.Rule.{include, over, _also_}
 use Rattle.rules.specs.Round.{labels}
-use Rattle.rules.specs.Gap.{Finds}
-use Rattle.rules.proofs.Find.{finds-each-end}
-use Rattle.program.specs.Program.{statements, guestsStatements, returnsOf}
-use Rattle.analysis.specs.Rules.{entering}
+use Rattle.rules.specs.Gap.{grows, lower, Finds}
+use Rattle.rules.proofs.Find.{finds-equal}
+use Rattle.program.specs.Program.{statements, guestsStatements, thisOf, formalsOf, returnsOf}
+use Rattle.analysis.specs.Rules.{passing}
 use Rattle.statements.specs.Desk.{desk}
 use Rattle.checker.specs.Seen.{seen}
 use Rattle.checker.proofs.Seen.{seen-small}
 use Rattle.checker.proofs.Loops.{each-first, each-next}
+use Rattle.checker.proofs.Returns.{call-finds}
 use Rattle.checker.proofs.function.call.Statement.{statement}
 use Rattle.checker.proofs.function.call.Tie as tie
 
 abbrev Inv-loop : tie.InvT-loop
-Inv-loop t d types formals returned k y callee this args low w best₀ f₀ best f =
-    (f ≤ 64) × (f < 64 → On w f)
-    × Finds 64 (seen d t) (over (labels f w) (λ m. when (eqb (getD types m 0) 2) (entering (desk [] [] formals [] returned) k y this args m))) low best
+Inv-loop t d types formals returned handed k y callee this args low fs best₀ f₀ best f =
+    (f ≤ 64) × (f < 64 → On fs f)
+    × Finds 64 (seen d t) (over (labels f fs) (λ g. include (variable (thisOf (desk [] [] formals [] [] .sheet) g)) (variable this)
+    also passing (desk [] [] formals [] []) (formalsOf (desk [] [] formals [] [] .sheet) g) args)) low best
 
 abbrev μ-loop : tie.MeasureT-loop
-μ-loop t d types formals returned k y callee this args low w best₀ f₀ best f = 64 - f
+μ-loop t d types formals returned handed k y callee this args low fs best₀ f₀ best f = 64 - f
 
 row-at-requires : tie.Need-row-at-requires Inv-loop μ-loop
 row-at-requires c κs = search needs
+
+functions-of-requires : tie.Need-functions-of-requires Inv-loop μ-loop
+functions-of-requires c κs = search needs
 
 next-requires : tie.Need-next-requires Inv-loop μ-loop
 next-requires c κs = search needs
@@ -38,11 +41,8 @@ next-requires c κs = search needs
 loop-holds : tie.Need-loop-holds Inv-loop μ-loop
 loop-holds c = let n = c .next .ensures in (n .high, n .here, each-first _ _ n)
 
-element-copy-out-enter-function : tie.Need-element-copy-out-enter-function Inv-loop μ-loop
-element-copy-out-enter-function c = search needs
-
-enter-function-requires : tie.Need-enter-function-requires Inv-loop μ-loop
-enter-function-requires c κs = search needs
+enter-requires : tie.Need-enter-requires Inv-loop μ-loop
+enter-requires c κs = search needs
 
 add-next : tie.Need-add-next Inv-loop μ-loop
 add-next c = search needs
@@ -55,16 +55,40 @@ loop-less c = search needs
 
 loop-again : tie.Need-loop-again Inv-loop μ-loop
 loop-again c =
-    let r = c .before .before .before .before .loop in
+    let r = c .before .before .before .loop in
     let n = c .next2 .ensures in
-    (n .high, n .here, each-next _ _ _ (r .inv .1 (c .before .before .before .loop-test .taken)) n (r .inv .2) (c .before .enter-function .ensures))
+    (n .high, n .here, each-next _ _ _ (r .inv .1 (c .before .before .loop-test .taken)) n (r .inv .2) (c .before .enter .ensures))
+
+pick-requires : tie.Need-pick-requires Inv-loop μ-loop
+pick-requires c κs = search needs
+
+gather-requires : tie.Need-gather-requires Inv-loop μ-loop
+gather-requires c κs = search needs
+
+look-word-requires : tie.Need-look-word-requires Inv-loop μ-loop
+look-word-requires c κs = search needs
+
+add-look-word : tie.Need-add-look-word Inv-loop μ-loop
+add-look-word c = search needs
+
+look-word-requires-2 : tie.Need-look-word-requires-2 Inv-loop μ-loop
+look-word-requires-2 c κs = search needs
 
 returns : tie.Need-returns Inv-loop μ-loop
 unfolding returnsOf statements guestsStatements
 returns c =
-    let a = c .before .before .before .before .before .before .args in
-    let e : c .before .loop .f ≡ 64 = omega arith in
-    finds-each-end (variable (a .callee)) (seen-small (a .d) (a .t .now) (c .before .before .before .before .before .before .fits .d .fits)) (rw (e, c .before .before .before .row-at .ensures) at (c .before .loop .inv .2))
+    let b = c .before .before .before .before .before .before .before .before .before .before .before .before in
+    let a = b .args in
+    let t = seen (a .d) (a .t .now) in
+    let fs = c .before .before .before .before .before .before .before .before .functions-of in
+    let out = c .before .before .gather in
+    let back = c .before .before .before .pick in
+    let r = c .before .before .before .before .before .before .loop in
+    let e : r .f ≡ 64 = omega (arith, c .before .before .before .before .before .loop-test .left, r .inv .0) in
+    finds-equal (c .look-word2 .ensures ∙ ap (λ (z : ℕ). lower (grows (2368 + a .k) (out .result) t) (2368 + a .k) z) (c .before .look-word .ensures))
+    (call-finds (desk (a .types .now) [] (a .formals .now) [] (a .returned .now)) t (a .k) (a .y) (a .callee) (a .this) (a .args .now) (fs .result) (back .result)
+    (out .result) (seen-small (a .d) (a .t .now) (b .fits .d .fits)) (search needs) (rw (c .before .before .before .before .before .before .before .before .before .row-at .ensures) at (fs .ensures)) (a .handed .now) (a .low) (r .best)
+    (search needs) (search needs) (b .pre .7) (back .ensures) (out .ensures) (rw e at (r .inv .2)))
 
 pub call-spec : {M : Type 1} → statement M
 call-spec =
@@ -73,12 +97,17 @@ call-spec =
     Inv-loop
     μ-loop
     row-at-requires
+    functions-of-requires
     next-requires
     loop-holds
-    element-copy-out-enter-function
-    enter-function-requires
+    enter-requires
     add-next
     next-requires-2
     loop-less
     loop-again
+    pick-requires
+    gather-requires
+    look-word-requires
+    add-look-word
+    look-word-requires-2
     returns)

@@ -15,22 +15,22 @@ look-give-requires-2 : tie.Need-look-give-requires-2
 look-give-requires-2 c κs = search needs
 
 load-requires : tie.Need-load-requires
-load-requires c κs = search needs
+load-requires c κs = let p = c .before .before .before .pre in (p .0, search needs, search needs, search needs, search needs, p .3, p .5)
 
 store-requires : tie.Need-store-requires
-store-requires c κs = search needs
+store-requires c κs = let p = c .before .before .before .before .pre in (p .0, search needs, search needs, search needs, p .2, p .4)
 
 slice-aggregate-call : tie.Need-slice-aggregate-call
 slice-aggregate-call c = search needs
 
 call-requires : tie.Need-call-requires
-call-requires c κs = search needs
+call-requires c κs = let p = c .before .before .before .before .before .before .pre in (p .0, search needs, search needs, search needs, search needs, search needs, p .1, p .6)
 
 slice-aggregate-make-new : tie.Need-slice-aggregate-make-new
 slice-aggregate-make-new c = search needs
 
 make-new-requires : tie.Need-make-new-requires
-make-new-requires c κs = search needs
+make-new-requires c κs = let p = c .before .before .before .before .before .before .before .before .pre in (p .0, search needs, search needs, search needs, search needs, search needs, search needs, p .1, p .5, p .6)
 
 look-include-requires : tie.Need-look-include-requires
 look-include-requires c κs = search needs

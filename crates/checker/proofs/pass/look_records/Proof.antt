@@ -10,10 +10,10 @@ use Rattle.checker.proofs.pass.look_records.Statement.{statement}
 use Rattle.checker.proofs.pass.look_records.Tie as tie
 
 abbrev Inv-loop : tie.InvT-loop
-Inv-loop file t d types flags formals masks returned low best₀ at₀ best at = Walk (desk types flags formals masks returned) (seen d t) file at low best
+Inv-loop file t d types flags formals masks returned words unions meets chains hurled gaps handed low best₀ at₀ best at = Walk (desk types flags formals masks returned) (seen d t) file at low best
 
 abbrev μ-loop : tie.MeasureT-loop
-μ-loop file t d types flags formals masks returned low best₀ at₀ best at = length file - at
+μ-loop file t d types flags formals masks returned words unions meets chains hurled gaps handed low best₀ at₀ best at = length file - at
 
 loop-holds : tie.Need-loop-holds Inv-loop μ-loop
 loop-holds c = walk-first _ _ (c .before .before .pre .1)
@@ -49,7 +49,7 @@ part-look-record-end c = omega (arith, room c)
 
 look-record-requires : tie.Need-look-record-requires Inv-loop μ-loop
 look-record-requires c κs =
-    (c .before .before .before .before .before .before .before .pre .0, walk-range (c .before .before .before .before .loop .inv) (c .before .before .before .loop-test .taken) (c .before .length-of .result) (c .before .length-of .ensures), c .before .before .before .before .before .before .before .pre .2)
+    (c .before .before .before .before .before .before .before .pre .0, walk-range (c .before .before .before .before .loop .inv) (c .before .before .before .loop-test .taken) (c .before .length-of .result) (c .before .length-of .ensures), c .before .before .before .before .before .before .before .pre .2, c .before .before .before .before .before .before .before .pre .3)
 
 add-at : tie.Need-add-at Inv-loop μ-loop
 add-at c = omega (arith, room (c .before .before))

@@ -31,7 +31,7 @@ shared-slice-read-load : tie.Need-shared-slice-read-load
 shared-slice-read-load c = search needs
 
 load-requires : tie.Need-load-requires
-load-requires c κs = search needs
+load-requires c κs = let p = c .before .before .before .before .before .before .before .before .before .pre in (p .0, search needs, search needs, search needs, search needs, p .2, p .3)
 
 returns : tie.Need-returns
 unfolding statementsOf

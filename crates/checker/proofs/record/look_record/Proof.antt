@@ -23,10 +23,10 @@ copy-record-requires : tie.Need-copy-record-requires
 copy-record-requires c κs = let pre = c .before .before .before .pre in (pre .0, rw (c .match .keys5) at (pre .1))
 
 load-record-requires : tie.Need-load-record-requires
-load-record-requires c κs = let pre = c .before .before .before .pre in (pre .0, rw (c .match .keys6) at (pre .1))
+load-record-requires c κs = let pre = c .before .before .before .pre in (pre .0, rw (c .match .keys6) at (pre .1), pre .3 .joined, pre .3 .gathered)
 
 store-record-requires : tie.Need-store-record-requires
-store-record-requires c κs = let pre = c .before .before .before .pre in (pre .0, rw (c .match .keys7) at (pre .1))
+store-record-requires c κs = let pre = c .before .before .before .pre in (pre .0, rw (c .match .keys7) at (pre .1), pre .3 .names, pre .3 .common)
 
 make-record-requires : tie.Need-make-record-requires
 make-record-requires c κs = let pre = c .before .before .before .pre in (pre .0, rw (c .match .keys8) at (pre .1))
@@ -35,10 +35,10 @@ function-record-requires : tie.Need-function-record-requires
 function-record-requires c κs = let pre = c .before .before .before .pre in (pre .0, rw (c .match .keys9) at (pre .1))
 
 call-record-requires : tie.Need-call-record-requires
-call-record-requires c κs = let pre = c .before .before .before .pre in (pre .0, rw (c .match .keys10) at (pre .1), pre .2)
+call-record-requires c κs = let pre = c .before .before .before .pre in (pre .0, rw (c .match .keys10) at (pre .1), pre .2, pre .3 .back)
 
 new-record-requires : tie.Need-new-record-requires
-new-record-requires c κs = let pre = c .before .before .before .pre in (pre .0, rw (c .match .keys11) at (pre .1), pre .2)
+new-record-requires c κs = let pre = c .before .before .before .pre in (pre .0, rw (c .match .keys11) at (pre .1), pre .2, pre .3 .gathered, pre .3 .back)
 
 throw-record-requires : tie.Need-throw-record-requires
 throw-record-requires c κs = let pre = c .before .before .before .pre in (pre .0, rw (c .match .keys12) at (pre .1))
@@ -47,7 +47,7 @@ catch-record-requires : tie.Need-catch-record-requires
 catch-record-requires c κs = let pre = c .before .before .before .pre in (pre .0, rw (c .match .keys13) at (pre .1))
 
 prim-record-requires : tie.Need-prim-record-requires
-prim-record-requires c κs = let pre = c .before .before .before .pre in (pre .0, rw (c .match .keys14) at (pre .1))
+prim-record-requires c κs = let pre = c .before .before .before .pre in (pre .0, rw (c .match .keys14) at (pre .1), pre .3 .throws, pre .3 .holes)
 
 returns : tie.Need-returns
 unfolding statementsOf namesOf returnsOf statements guestsStatements

@@ -21,7 +21,7 @@ wide-requires-2 : tie.Need-wide-requires-2
 wide-requires-2 c κs = search needs
 
 convert-requires : tie.Need-convert-requires
-convert-requires c κs = search needs
+convert-requires c κs = let p = c .before .before .before .before .before .before .pre in (p .0, search needs, search needs, p .2, p .3)
 
 returns : tie.Need-returns
 unfolding statementsOf

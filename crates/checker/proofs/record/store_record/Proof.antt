@@ -25,7 +25,7 @@ shared-slice-read-store : tie.Need-shared-slice-read-store
 shared-slice-read-store c = search needs
 
 store-requires : tie.Need-store-requires
-store-requires c κs = search needs
+store-requires c κs = let p = c .before .before .before .before .before .before .before .pre in (p .0, search needs, search needs, search needs, p .2, p .3)
 
 returns : tie.Need-returns
 unfolding statementsOf

@@ -18,20 +18,21 @@ use Rattle.statements.specs.Desk.{desk}
 use Rattle.checker.specs.Seen.{seen}
 use Rattle.checker.proofs.Seen.{seen-small}
 use Rattle.checker.proofs.Loops.{each-first, each-next}
+use Rattle.checker.proofs.Keeps.{word-listed}
 use Rattle.checker.proofs.Finds.{store-named}
 use Rattle.checker.proofs.rule.store.Statement.{statement}
 use Rattle.checker.proofs.rule.store.Tie as tie
 
 abbrev Inv-loop : tie.InvT-loop
-Inv-loop t d flags masks x key a low names w best₀ l₀ best l =
+Inv-loop t d flags masks words meets x key a low names w best₀ l₀ best l =
     (l ≤ 64) × (l < 64 → On w l)
     × Finds 64 (seen d t) (over (labels l w) (λ m. when (not (eqb (getD flags m 0) 1)) (over (labels 64 names) (λ n. include (property m n) (variable a))))) low best
 
 abbrev μ-loop : tie.MeasureT-loop
-μ-loop t d flags masks x key a low names w best₀ l₀ best l = 64 - l
+μ-loop t d flags masks words meets x key a low names w best₀ l₀ best l = 64 - l
 
-names-of-requires : tie.Need-names-of-requires Inv-loop μ-loop
-names-of-requires c κs = search needs
+names-at-requires : tie.Need-names-at-requires Inv-loop μ-loop
+names-at-requires c κs = search needs
 
 row-at-requires : tie.Need-row-at-requires Inv-loop μ-loop
 row-at-requires c κs = search needs
@@ -42,11 +43,14 @@ next-requires c κs = search needs
 loop-holds : tie.Need-loop-holds Inv-loop μ-loop
 loop-holds c = let n = c .next .ensures in (n .high, n .here, each-first _ _ n)
 
+common-at-requires : tie.Need-common-at-requires Inv-loop μ-loop
+common-at-requires c κs = let p = c .before .before .before .before .before .before .pre in (p .0, p .2, c .loop-test .taken, p .5)
+
 element-copy-out-store-at : tie.Need-element-copy-out-store-at Inv-loop μ-loop
 element-copy-out-store-at c = search needs
 
 store-at-requires : tie.Need-store-at-requires Inv-loop μ-loop
-store-at-requires c κs = search needs
+store-at-requires c κs = let p = c .before .before .before .before .before .before .before .before .pre in (p .0, c .before .before .loop-test .taken, p .3, rw (c .before .before .before .before .before .before .names-at .ensures) (c .before .common-at .ensures))
 
 add-next : tie.Need-add-next Inv-loop μ-loop
 add-next c = search needs
@@ -59,18 +63,20 @@ loop-less c = search needs
 
 loop-again : tie.Need-loop-again Inv-loop μ-loop
 loop-again c =
-    let r = c .before .before .before .before .loop in
+    let r = c .before .before .before .before .before .loop in
     let n = c .next2 .ensures in
-    (n .high, n .here, each-next _ _ _ (r .inv .1 (c .before .before .before .loop-test .taken)) n (r .inv .2) (c .before .store-at .ensures))
+    (n .high, n .here, each-next _ _ _ (r .inv .1 (c .before .before .before .before .loop-test .taken)) n (r .inv .2) (c .before .store-at .ensures))
 
 returns : tie.Need-returns Inv-loop μ-loop
 unfolding namesOf
 returns c =
-    let a = c .before .before .before .before .before .before .args in
-    let names = c .before .before .before .before .names-of in
+    let b = c .before .before .before .before .before .before in
+    let a = b .args in
+    let names = c .before .before .before .before .names-at in
     let e : c .before .loop .l ≡ 64 = omega arith in
-    store-named (desk [] (a .flags .now) [] (a .masks .now) []) (a .x) (a .key) (a .a) (names .result) (names .ensures) (search needs)
-    (finds-each-end (variable (a .x)) (seen-small (a .d) (a .t .now) (c .before .before .before .before .before .before .fits .d .fits)) (rw (e, c .before .before .before .row-at .ensures) at (c .before .loop .inv .2)))
+    store-named (desk [] (a .flags .now) [] (a .masks .now) []) (a .x) (a .key) (a .a) (names .result)
+    (rw (names .ensures) (word-listed (a .masks .now) (a .words .now) (a .key) (b .pre .2) (b .pre .4))) (search needs)
+    (finds-each-end (variable (a .x)) (seen-small (a .d) (a .t .now) (b .fits .d .fits)) (rw (e, c .before .before .before .row-at .ensures) at (c .before .loop .inv .2)))
 
 pub store-spec : {M : Type 1} → statement M
 store-spec =
@@ -78,10 +84,11 @@ store-spec =
     (tie.spec
     Inv-loop
     μ-loop
-    names-of-requires
+    names-at-requires
     row-at-requires
     next-requires
     loop-holds
+    common-at-requires
     element-copy-out-store-at
     store-at-requires
     add-next

@@ -1,13 +1,12 @@
--- The rows of the returned variables, in S(y). Assumes nothing.
+-- The union of four words of variables. Assumes nothing.
 use borrow.Author.Needs.{needs}
 use mathlib.Core.Path.{_≡_, ap₂, _∙_}
 use Rattle.words.specs.Words.{union}
-use Rattle.rules.proofs.Find.{finds-equal}
 use Rattle.checker.specs.Seen.{seen}
-use Rattle.checker.proofs.Seen.{seen-small}
-use Rattle.checker.proofs.Returns.{returns-finds}
-use Rattle.checker.proofs.function.look_returns.Statement.{statement}
-use Rattle.checker.proofs.function.look_returns.Tie as tie
+use Rattle.checker.proofs.Returns.{returns-joined}
+use borrow.Author.Needs.{needs}
+use Rattle.checker.proofs.keep.handed_word.Statement.{statement}
+use Rattle.checker.proofs.keep.handed_word.Tie as tie
 
 mul-gather : tie.Need-mul-gather
 mul-gather c = search needs
@@ -75,26 +74,21 @@ join-requires-2 c κs = search needs
 join-requires-3 : tie.Need-join-requires-3
 join-requires-3 c κs = search needs
 
-look-word-requires : tie.Need-look-word-requires
-look-word-requires c κs = search needs
-
 returns : tie.Need-returns
 returns c =
-    let a = c .before .before .before .before .before .before .before .before .before .before .before .before .before .args in
-    let one = c .before .before .before .before .before .before .before .before .before .before .gather in
-    let two = c .before .before .before .before .before .before .before .before .gather2 in
-    let three = c .before .before .before .before .before .before .gather3 in
-    let four = c .before .before .before .before .gather4 in
-    let all = c .before .join3 in
-    let u : all .result ≡ union (union (one .result) (two .result)) (union (three .result) (four .result)) =
-    all .ensures ∙ ap₂ union (c .before .before .before .join .ensures) (c .before .before .join2 .ensures) in
-    finds-equal (rw u at (c .look-word .ensures))
-    (returns-finds (a .returned .now) (a .f) (a .y) (one .result) (two .result) (three .result) (four .result) (a .low) (seen (a .d) (a .t .now))
-    (seen-small (a .d) (a .t .now) (c .before .before .before .before .before .before .before .before .before .before .before .before .before .fits .d .fits)) (c .before .before .before .before .before .before .before .before .before .before .before .before .before .pre .1) (rw (← u) (search needs))
+    let b = c .before .before .before .before .before .before .before .before .before .before .before .before in
+    let a = b .args in
+    let one = c .before .before .before .before .before .before .before .before .before .gather in
+    let two = c .before .before .before .before .before .before .before .gather2 in
+    let three = c .before .before .before .before .before .gather3 in
+    let four = c .before .before .before .gather4 in
+    let u : c .join3 .result ≡ union (union (one .result) (two .result)) (union (three .result) (four .result)) =
+    c .join3 .ensures ∙ ap₂ union (c .before .before .join .ensures) (c .before .join2 .ensures) in
+    rw u (returns-joined (a .returned .now) (a .f) (one .result) (two .result) (three .result) (four .result) (seen (a .d) (a .t .now)) (b .pre .1)
     (one .ensures) (two .ensures) (three .ensures) (four .ensures))
 
-pub look-returns-spec : {M : Type 1} → statement M
-look-returns-spec =
+pub handed-word-spec : {M : Type 1} → statement M
+handed-word-spec =
     tie.close
     (tie.spec
     mul-gather
@@ -119,5 +113,4 @@ look-returns-spec =
     join-requires
     join-requires-2
     join-requires-3
-    look-word-requires
     returns)
