@@ -2,3 +2,4 @@
 pub mod Notes
 pub mod Looks
 pub mod Keeps
+pub mod Fulls

@@ -30,14 +30,14 @@ part-bit last m n h =
     rw (word, place) (bit-shifted (getD last (4 + m / 2) 0) (32 * (m % 2)) n)
 
 -- a word whose labels below k are all there
-full : (k n : ℕ) → n < k → On (2 ^ k - 1) n
-full zero n h = absurd (omega arith)
-full (suc k) zero h =
+pub whole-word : (k n : ℕ) → n < k → On (2 ^ k - 1) n
+whole-word zero n h = absurd (omega arith)
+whole-word (suc k) zero h =
     let low : (2 ^ suc k - 1) % 2 ≡ 1 = omega (arith, pow-suc 2 k, pow-pos k) in
     bit-low (2 ^ suc k - 1) ∙ low
-full (suc k) (suc n) h =
+whole-word (suc k) (suc n) h =
     let half : (2 ^ suc k - 1) / 2 ≡ 2 ^ k - 1 = omega (arith, pow-suc 2 k, pow-pos k) in
-    bit-half (2 ^ suc k - 1) n ∙ ap (λ (w : ℕ). bit w n) half ∙ full k n (omega arith)
+    bit-half (2 ^ suc k - 1) n ∙ ap (λ (w : ℕ). bit w n) half ∙ whole-word k n (omega arith)
 
 -- ---- the labels of which a property is noted
 
@@ -60,7 +60,7 @@ stirring-off last all m e s = record { whole = λ k n h i o. go k n h i o (ℕ-d
   where
     none : (n : ℕ) → n < 32 → Noted last (256 + 32 * m + n) → ⊥
     none n i o =
-        let on = meet-on (part last m) 4294967295 n (part-bit last m n i ∙ o) (full 32 n i) in
+        let on = meet-on (part last m) 4294967295 n (part-bit last m n i ∙ o) (whole-word 32 n i) in
         empty-off n (subst (λ (w : ℕ). On w n) e on)
 
     go : (k n : ℕ) → k < m + 1 → n < 32 → Noted last (256 + 32 * k + n) → Dec (k ≡ m) → On all k

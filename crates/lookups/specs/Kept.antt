@@ -71,6 +71,10 @@ Part n fresh words = (v m : ℕ) → v < n → bit (getD fresh v 0) m ≡ 1 → 
 abbrev pub Exacts : ℕ → (ℕ → ℕ → Type 0) → List ℕ → Type 0
 Exacts n set words = (v : ℕ) → v < n → Exact (set v) (getD words v 0)
 
+-- each word holds only labels that every property of its label holds
+abbrev pub Full : Table → List ℕ → Type 0
+Full t full = (m n l : ℕ) → m < 64 → n < 32 → bit (getD full m 0) l ≡ 1 → Has t (256 + 32 * m + n) l
+
 -- the number of labels in each row, in two arrays
 pub record Sizes (t : Table) (low high : List ℕ) : Type 0 where
   pub low-rows : (r : ℕ) → r < 2048 → getD low r 0 ≡ countBelow (getD t r 0) 64

@@ -10,7 +10,7 @@ ghost use Rattle.rules.specs.Round.{leastAbove};
 ghost use Rattle.format.specs.Reading.{readFile, Readable};
 ghost use Rattle.program.specs.Program.{Program, programOf};
 ghost use Rattle.analysis.specs.Rules.{rules};
-ghost use Rattle.lookups.specs.Kept.{Stirred, Part};
+ghost use Rattle.lookups.specs.Kept.{Stirred, Part, Full};
 ghost use Rattle.statements.specs.Desk.{desk, deskOf, hostRules, passRules};
 ghost use Rattle.statements.specs.View.{Laid, View};
 use lookups::keep::renew_chains;
@@ -28,6 +28,7 @@ use tables::wide;
 // The rules of the records, in the order of the file.
 fn host(
     t: &mut [u64],
+    full: &mut [u64; 64],
     file: &[u8],
     functions: u64,
     flags: &[u8; 64],
@@ -42,8 +43,9 @@ fn host(
     stirred: u64,
     stale: u64,
 ) -> bool
-    requires { ⌜ (2432 ≤ length (now t)) × Readable 64 (now file) × (length (now formals) ≡ 448) × (length (now handed) ≡ 64) × Stirred (now last) stirred × Part 256 (now fresh) (now chains) ⌝ }
-    ensures { λ r. ⌜ ((p : Program) (returned : List ℕ) (old new : Table) → Laid p functions (now (flags .entry)) (now (formals .entry)) (now (classes .entry)) returned → View old new returned (now (last .entry)) (now (chains .entry)) (now (fresh .entry)) (now (methods .entry)) (now (added .entry)) (now (handed .entry)) stirred stale → Within new (now (t .entry)) → Resumes 64 (hostRules p (now (file .entry))) old new (now (t .entry)) (now (t .exit)) r) ⌝ }
+    requires { ⌜ (2432 ≤ length (now t)) × Readable 64 (now file) × (length (now formals) ≡ 448) × (length (now handed) ≡ 64) × Stirred (now last) stirred × Part 256 (now fresh) (now chains) × (length (now full) ≡ 64) ⌝ }
+    ensures { λ r. ⌜ ((p : Program) (returned : List ℕ) (old new : Table) → Laid p functions (now (flags .entry)) (now (formals .entry)) (now (classes .entry)) returned → View old new returned (now (last .entry)) (now (chains .entry)) (now (fresh .entry)) (now (methods .entry)) (now (added .entry)) (now (handed .entry)) stirred stale → Within new (now (t .entry)) → Full (now (t .entry)) (now (full .entry)) → Resumes 64 (hostRules p (now (file .entry))) old new (now (t .entry)) (now (t .exit)) r × Full (now (t .exit)) (now (full .exit))) ⌝ }
+    ensures { λ _. ⌜ length (now (full .exit)) ≡ 64 ⌝ }
 {
     let lengths = layout::lengths();
     let mut grew = false;
@@ -53,6 +55,7 @@ fn host(
         let n = wide(lengths[wide(kind)]);
         let more = statement(
             t,
+            full,
             functions,
             flags,
             formals,
@@ -77,6 +80,7 @@ fn host(
 // Every rule once.
 fn pass(
     t: &mut [u64],
+    full: &mut [u64; 64],
     file: &[u8],
     types: &[u8; 64],
     functions: u64,
@@ -92,13 +96,15 @@ fn pass(
     stirred: u64,
     stale: u64,
 ) -> bool
-    requires { ⌜ (2432 ≤ length (now t)) × Readable 64 (now file) × (length (now formals) ≡ 448) × (length (now handed) ≡ 64) × Stirred (now last) stirred × Part 256 (now fresh) (now «chain_words») ⌝ }
-    ensures { λ r. ⌜ ((p : Program) (returned : List ℕ) (old new : Table) → p .sheet .types ≡ now (types .entry) → Laid p functions (now (flags .entry)) (now (formals .entry)) (now (classes .entry)) returned → View old new returned (now (last .entry)) (now («chain_words» .entry)) (now (fresh .entry)) (now (methods .entry)) (now (added .entry)) (now (handed .entry)) stirred stale → Within new (now (t .entry)) → Resumes 64 (passRules p (now (file .entry))) old new (now (t .entry)) (now (t .exit)) r) ⌝ }
+    requires { ⌜ (2432 ≤ length (now t)) × Readable 64 (now file) × (length (now formals) ≡ 448) × (length (now handed) ≡ 64) × Stirred (now last) stirred × Part 256 (now fresh) (now «chain_words») × (length (now full) ≡ 64) ⌝ }
+    ensures { λ r. ⌜ ((p : Program) (returned : List ℕ) (old new : Table) → p .sheet .types ≡ now (types .entry) → Laid p functions (now (flags .entry)) (now (formals .entry)) (now (classes .entry)) returned → View old new returned (now (last .entry)) (now («chain_words» .entry)) (now (fresh .entry)) (now (methods .entry)) (now (added .entry)) (now (handed .entry)) stirred stale → Within new (now (t .entry)) → Full (now (t .entry)) (now (full .entry)) → Resumes 64 (passRules p (now (file .entry))) old new (now (t .entry)) (now (t .exit)) r × Full (now (t .exit)) (now (full .exit))) ⌝ }
+    ensures { λ _. ⌜ length (now (full .exit)) ≡ 64 ⌝ }
 {
     let a = chains(t, last, types);
     let b = guest_chain(t);
     let c = guest(
         t,
+        full,
         functions,
         flags,
         formals,
@@ -112,6 +118,7 @@ fn pass(
     );
     let d = host(
         t,
+        full,
         file,
         functions,
         flags,
@@ -170,6 +177,7 @@ pub fn settle<'a>(
     let mut methods = [0u64; 256];
     let mut added = [0u64; 256];
     let mut handed = [0u64; 64];
+    let mut full = [0u64; 64];
     let mut again = true;
     while again {
         let stirred = stirred_labels(&last);
@@ -186,6 +194,7 @@ pub fn settle<'a>(
         let stale = renew_handed(t, returned, &last, &mut handed);
         again = pass(
             t,
+            &mut full,
             file,
             types,
             functions,

@@ -5,11 +5,11 @@ use mathlib.Core.List.{List, [], _∷_, List·Memᴰ, List·Memᴰ·eq-of-single
 use mathlib.Core.Bool.{Bool, true, false, cond, not}
 use Prim.Native.Nat.{ℕ, _+_, _-_, _*_, _/_, _%_, _^_, _<_}
 use native.Mathlib.Omega.{arith}
-use lib.ListN.{getD}
+use lib.ListN.{length, getD, set}
 use lib.Dec.{eqb, ltb}
 use borrow.Author.Tests.{eqb-true, eqb-false, ltb-true}
-use Rattle.words.specs.Words.{bit, union}
-use Rattle.words.proofs.Bits.{On, on?, on-union, on-left, on-right, on-single, single-only, on-below}
+use Rattle.words.specs.Words.{bit, union, difference}
+use Rattle.words.proofs.Bits.{On, on?, on-union, on-left, on-right, difference-on, on-single, single-only, on-below, empty-off}
 use Rattle.rows.specs.Row.{variable, property, chain, rowCount}
 use Rattle.rules.specs.Table.{Table, Has, Within, Shaped}
 use Rattle.rules.specs.Rule.{Rule, include, each, over, both, when, chosen}
@@ -19,13 +19,15 @@ use Rattle.rules.specs.Gap.{grows}
 use Rattle.rules.specs.Sweep.{Heeds, Draws, Sweeps, Resumes}
 use Rattle.rules.proofs.Labels.{label-on, on-label, chosen-passes}
 use Rattle.rules.proofs.Join.{join-tells, join-keeps}
-use Rattle.rules.proofs.Sweep.{sweeps-for}
+use Rattle.rules.proofs.Sweep.{reaches-itself, sweeps-none, sweeps-for}
 use Rattle.rules.proofs.Resumes.{resumes-join, resumes-skip}
 use Rattle.format.specs.Sheet.{builtIn}
 use Rattle.program.specs.Program.{Program, namesOf, inClass}
 use Rattle.analysis.specs.Rules.{looking, storing}
 use Rattle.tables.specs.Sets.{Listed}
-use Rattle.lookups.specs.Kept.{Noted, Same, OnChains, Delta, Looked}
+use Rattle.lookups.specs.Kept.{Noted, Same, OnChains, Delta, Looked, Full}
+use Rattle.lookups.proofs.Looks.{whole-word}
+use Rattle.lookups.proofs.Fulls.{full-within, full-join}
 use Rattle.statements.specs.Range.{Key}
 use Rattle.statements.proofs.Passing.{closed-when, heeds-when}
 
@@ -211,6 +213,30 @@ store-named {t} {u} p x key a names listed h s =
 
     worded : ℕ → Rule
     worded l = over (labels 64 names) (λ n. include (property l n) (variable a))
+
+-- what every property of label l holds need not be stored there
+pub store-full : (t : Table) (full : List ℕ) (l names a : ℕ) → l < 64 → Full t full → ((n : ℕ) → On names n → n < 32)
+    → difference (getD t a 0) (getD full l 0) ≡ 0 → Sweeps 64 (over (labels 64 names) (λ n. include (property l n) (variable a))) t t false
+store-full t full l names a h f below e =
+    let s = sweeps-none {L = 64} {t = t} in
+    record { reaches = reaches-itself; heeds = λ n i z k o. f l n k h (below n (label-on 64 names n i .1)) (known k o); still = s .still; more = s .more }
+  where
+    known : (k : ℕ) → Has t a k → On (getD full l 0) k
+    known k o =
+        elim (difference-on (getD t a 0) (getD full l 0) k o) [ inl i ↦ absurd (empty-off k (subst (λ (w : ℕ). On w k) e i)) | inr i ↦ i ]
+
+-- what is stored under all names is in every property of label l
+pub store-fills : {t u : Table} {grew : Bool} (full : List ℕ) (l names a : ℕ) → l < length full → names ≡ 4294967295
+    → Sweeps 64 (over (labels 64 names) (λ n. include (variable (256 + 32 * l + n)) (variable a))) t u grew → Full t full
+    → Full u (set full l (union (getD full l 0) (getD t a 0)))
+store-fills {t} {u} full l names a h e s f =
+    full-join u full l (getD t a 0) h (λ n k i o. s .heeds n (on-label 64 names n (omega arith) (subst (λ (w : ℕ). On w n) (sym e) (whole-word 32 n i))) (omega arith) k o)
+    (full-within t u full (s .reaches .adds) f)
+
+-- what work keeps full
+pub keeping : {rule : Rule} {old new t u : Table} {grew : Bool} (full : List ℕ) → Resumes 64 rule old new t u grew → Full t full
+    → Resumes 64 rule old new t u grew × Full u full
+keeping {t = t} {u = u} full s f = (s, full-within t u full (s .reaches .adds) f)
 
 -- where neither S(x) nor S(a) grew, all was stored before
 pub store-known : (p : Program) (last : List ℕ) (old new t : Table) (x key a : ℕ) → x < 256 → a < 256 → Same last old new

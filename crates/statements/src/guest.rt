@@ -6,7 +6,7 @@ ghost use lib.ListN.{length};
 ghost use Rattle.rules.specs.Table.{Table, Within};
 ghost use Rattle.rules.specs.Sweep.{Resumes};
 ghost use Rattle.program.specs.Program.{Program};
-ghost use Rattle.lookups.specs.Kept.{Stirred, Part};
+ghost use Rattle.lookups.specs.Kept.{Stirred, Part, Full};
 ghost use Rattle.statements.specs.Desk.{guestRules};
 ghost use Rattle.statements.specs.View.{Laid, View};
 use crate::function::call;
@@ -19,6 +19,7 @@ use tables::store::include_row;
 // Scope and label 3, variable 1, key 128: make function, load, store, call, new, throw, catch. Row 355 is H(3,3), row 2371 T(3).
 pub fn guest(
     t: &mut [u64],
+    full: &mut [u64; 64],
     functions: u64,
     flags: &[u8; 64],
     formals: &[u8; 448],
@@ -30,8 +31,9 @@ pub fn guest(
     stirred: u64,
     stale: u64,
 ) -> bool
-    requires { ⌜ (2432 ≤ length (now t)) × (length (now formals) ≡ 448) × (length (now handed) ≡ 64) × Stirred (now last) stirred × Part 256 (now fresh) (now chains) ⌝ }
-    ensures { λ r. ⌜ ((p : Program) (returned methods added : List ℕ) (old new : Table) → Laid p functions (now (flags .entry)) (now (formals .entry)) (now (classes .entry)) returned → View old new returned (now (last .entry)) (now (chains .entry)) (now (fresh .entry)) methods added (now (handed .entry)) stirred stale → Within new (now (t .entry)) → Resumes 64 (guestRules p) old new (now (t .entry)) (now (t .exit)) r) ⌝ }
+    requires { ⌜ (2432 ≤ length (now t)) × (length (now formals) ≡ 448) × (length (now handed) ≡ 64) × Stirred (now last) stirred × Part 256 (now fresh) (now chains) × (length (now full) ≡ 64) ⌝ }
+    ensures { λ r. ⌜ ((p : Program) (returned methods added : List ℕ) (old new : Table) → Laid p functions (now (flags .entry)) (now (formals .entry)) (now (classes .entry)) returned → View old new returned (now (last .entry)) (now (chains .entry)) (now (fresh .entry)) methods added (now (handed .entry)) stirred stale → Within new (now (t .entry)) → Full (now (t .entry)) (now (full .entry)) → Resumes 64 (guestRules p) old new (now (t .entry)) (now (t .exit)) r × Full (now (t .exit)) (now (full .exit))) ⌝ }
+    ensures { λ _. ⌜ length (now (full .exit)) ≡ 64 ⌝ }
 {
     let bags = [1u8; 7];
     let names = classes[0];
@@ -40,7 +42,7 @@ pub fn guest(
     let a = give_row(t, 1, 3);
     let b = give_row(t, 355, 3);
     let c = load(t, last, c1, f1, stirred, names, 1, 1, 3);
-    let d = store(t, last, flags, names, 1, 1);
+    let d = store(t, full, last, flags, names, 1, 1);
     let e = call(t, functions, formals, last, handed, stale, 3, 1, 1, &bags);
     let f = make_new(
         t,

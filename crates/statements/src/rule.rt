@@ -13,7 +13,7 @@ ghost use Rattle.rules.specs.Sweep.{Sweeps, Resumes};
 ghost use Rattle.program.specs.Program.{Program, namesOf};
 ghost use Rattle.analysis.specs.Rules.{loading, storing};
 ghost use Rattle.tables.specs.Sets.{Listed};
-ghost use Rattle.lookups.specs.Kept.{Same, Stirred, OnChains, Delta};
+ghost use Rattle.lookups.specs.Kept.{Same, Stirred, OnChains, Delta, Full};
 ghost use Rattle.statements.specs.Range.{Key};
 use lookups::look::look;
 use lookups::note::noted;
@@ -48,27 +48,47 @@ pub fn load(
     gave | grew
 }
 
-// The labels of S(a), into the named properties of label l, unless its flag says that it is built-in.
-fn store_at(t: &mut [u64], flag: u8, l: usize, names: u64, a: usize) -> bool
-    requires { ⌜ (2432 ≤ length (now t)) × (l < 64) × (a < 256) ⌝ }
-    ensures { λ r. ⌜ Sweeps 64 (when (not (eqb flag 1)) (over (labels 64 names) (λ n. include (property l n) (variable a)))) (now (t .entry)) (now (t .exit)) r ⌝ }
+// The labels of S(a), into the named properties of label l, unless its flag says that it is built-in. Nothing is to be done where every property of l
+// holds them; `full` says so once they are stored under all 32 names.
+fn store_at(t: &mut [u64], full: &mut [u64; 64], flag: u8, l: usize, names: u64, a: usize) -> bool
+    requires { ⌜ (2432 ≤ length (now t)) × (l < 64) × (a < 256) × (length (now full) ≡ 64) ⌝ }
+    ensures { λ r. ⌜ (Full (now (t .entry)) (now (full .entry)) → ((n : ℕ) → bit names n ≡ 1 → n < 32) → Sweeps 64 (when (not (eqb flag 1)) (over (labels 64 names) (λ n. include (property l n) (variable a)))) (now (t .entry)) (now (t .exit)) r × Full (now (t .exit)) (now (full .exit))) ⌝ }
+    ensures { λ _. ⌜ length (now (full .exit)) ≡ 64 ⌝ }
 {
     if flag == 1 {
         return false;
     }
-    include_names(t, 256 + 32 * l, names, a)
+    let value = t[a];
+    let known = full[l];
+    if words::without(value, known) == 0 {
+        return false;
+    }
+    let grew = include_names(t, 256 + 32 * l, names, a);
+    if names != 4294967295 {
+        return grew;
+    }
+    full[l] = words::join(known, value);
+    grew
 }
 
 // The same for each label of S(x).
-fn store_all(t: &mut [u64], flags: &[u8; 64], names: u64, x: usize, a: usize) -> bool
-    requires { ⌜ (2432 ≤ length (now t)) × (x < 256) × (a < 256) ⌝ }
-    ensures { λ r. ⌜ ((p : Program) (key : ℕ) → p .sheet .flags ≡ now (flags .entry) → Listed (namesOf (p .sheet) key) names → Sweeps 64 (storing p x key a) (now (t .entry)) (now (t .exit)) r) ⌝ }
+fn store_all(
+    t: &mut [u64],
+    full: &mut [u64; 64],
+    flags: &[u8; 64],
+    names: u64,
+    x: usize,
+    a: usize,
+) -> bool
+    requires { ⌜ (2432 ≤ length (now t)) × (x < 256) × (a < 256) × (length (now full) ≡ 64) ⌝ }
+    ensures { λ r. ⌜ ((p : Program) (key : ℕ) → p .sheet .flags ≡ now (flags .entry) → Key key → Listed (namesOf (p .sheet) key) names → Full (now (t .entry)) (now (full .entry)) → Sweeps 64 (storing p x key a) (now (t .entry)) (now (t .exit)) r × Full (now (t .exit)) (now (full .exit))) ⌝ }
+    ensures { λ _. ⌜ length (now (full .exit)) ≡ 64 ⌝ }
 {
     let w = t[x];
     let mut grew = false;
     let mut l = words::next(w, 0);
     while l < 64 {
-        let more = store_at(t, flags[l], l, names, a);
+        let more = store_at(t, full, flags[l], l, names, a);
         grew = grew | more;
         l = words::next(w, l + 1);
     }
@@ -78,17 +98,19 @@ fn store_all(t: &mut [u64], flags: &[u8; 64], names: u64, x: usize, a: usize) ->
 // 18: store object x, names, value a; nothing is to be done where neither S(x) nor S(a) grew.
 pub fn store(
     t: &mut [u64],
+    full: &mut [u64; 64],
     last: &[u64; 38],
     flags: &[u8; 64],
     names: u64,
     x: usize,
     a: usize,
 ) -> bool
-    requires { ⌜ (2432 ≤ length (now t)) × (x < 256) × (a < 256) ⌝ }
-    ensures { λ r. ⌜ ((p : Program) (key : ℕ) (old new : Table) → p .sheet .flags ≡ now (flags .entry) → Listed (namesOf (p .sheet) key) names → Same (now (last .entry)) old new → Within new (now (t .entry)) → Resumes 64 (storing p x key a) old new (now (t .entry)) (now (t .exit)) r) ⌝ }
+    requires { ⌜ (2432 ≤ length (now t)) × (x < 256) × (a < 256) × (length (now full) ≡ 64) ⌝ }
+    ensures { λ r. ⌜ ((p : Program) (key : ℕ) (old new : Table) → p .sheet .flags ≡ now (flags .entry) → Key key → Listed (namesOf (p .sheet) key) names → Same (now (last .entry)) old new → Within new (now (t .entry)) → Full (now (t .entry)) (now (full .entry)) → Resumes 64 (storing p x key a) old new (now (t .entry)) (now (t .exit)) r × Full (now (t .exit)) (now (full .exit))) ⌝ }
+    ensures { λ _. ⌜ length (now (full .exit)) ≡ 64 ⌝ }
 {
     if noted(last, x) | noted(last, a) {
-        return store_all(t, flags, names, x, a);
+        return store_all(t, full, flags, names, x, a);
     }
     false
 }

@@ -11,25 +11,29 @@ use Rattle.statements.specs.View.{Laid, View}
 use Rattle.rules.specs.Table.{Table, Within}
 use Rattle.rules.specs.Rule.{every}
 use Rattle.rules.specs.Sweep.{Resumes}
+use Rattle.rules.proofs.Resumes.{within-on}
+use Rattle.lookups.specs.Kept.{Full}
 use Rattle.program.specs.Program.{Program}
 use Rattle.solver.proofs.Walk.{Walk, rulesOf, walk-first, resumes-first, walk-known, walk-room, walk-range, walk-next, resumes-next, walk-end}
 use Rattle.solver.proofs.pass.host.Statement.{statement}
 use Rattle.solver.proofs.pass.host.Tie as tie
 
 abbrev Inv-loop : tie.InvT-loop
-Inv-loop t₀ file functions flags formals classes last chains fresh methods added handed stirred stale lengths grew₀ at₀ t grew at =
-    (length t ≡ length t₀) × ((w : Walk file at) × ((p : Program) (returned : List ℕ) (old new : Table) → Laid p functions flags formals classes returned
-    → View old new returned last chains fresh methods added handed stirred stale → Within new t₀
-    → Resumes 64 (every (rulesOf p (w .done))) old new t₀ t grew))
+Inv-loop t₀ full₀ file functions flags formals classes last chains fresh methods added handed stirred stale lengths grew₀ at₀ t full grew at =
+    ((length t ≡ length t₀) × (length full ≡ 64)) × ((w : Walk file at) × ((p : Program) (returned : List ℕ) (old new : Table) → Laid p functions flags formals classes returned
+    → View old new returned last chains fresh methods added handed stirred stale → Within new t₀ → Full t₀ full₀
+    → Resumes 64 (every (rulesOf p (w .done))) old new t₀ t grew × Full t full))
 
 abbrev μ-loop : tie.MeasureT-loop
-μ-loop t₀ file functions flags formals classes last chains fresh methods added handed stirred stale lengths grew₀ at₀ t grew at = length file - at
+μ-loop t₀ full₀ file functions flags formals classes last chains fresh methods added handed stirred stale lengths grew₀ at₀ t full grew at = length file - at
 
 lengths-requires : tie.Need-lengths-requires Inv-loop μ-loop
 lengths-requires c κs = search needs
 
 loop-holds : tie.Need-loop-holds Inv-loop μ-loop
-loop-holds c = (refl, (walk-first _ (c .before .before .before .pre .1), λ p returned old new l v w. resumes-first p _ (c .before .before .before .pre .1)))
+loop-holds c =
+    let pre = c .before .before .before .pre in
+    ((refl, pre .6), (walk-first _ (pre .1), λ p returned old new l v w f. (resumes-first p _ (pre .1), f)))
 
 shared-slice-read-kind : tie.Need-shared-slice-read-kind Inv-loop μ-loop
 shared-slice-read-kind c = search needs
@@ -47,72 +51,6 @@ wide-requires-2 c κs = search needs
 
 add-statement : tie.Need-add-statement Inv-loop μ-loop
 add-statement c =
-    let w = c .before .before .before .before .before .loop .inv .1 .0 in
-    let h = c .before .before .before .before .loop-test .taken in
-    let k = getD (c .before .before .before .before .before .before .before .before .before .args .file .now) (c .before .before .before .before .before .loop .at) 0 in
-    let n = c .before .wide2 .ensures .0 in
-    let size : c .before .wide2 .result ≡ bodyLength k =
-    n ∙ ap₂ (λ (xs : List ℕ) (i : ℕ). getD xs i 0) (c .before .before .before .before .before .before .lengths .ensures) (c .before .before .wide .ensures .0) ∙ length-at k in
-    let room = walk-room w h in
-    omega arith
-
-add-statement-2 : tie.Need-add-statement-2 Inv-loop μ-loop
-add-statement-2 c =
-    let w = c .before .before .before .before .before .loop .inv .1 .0 in
-    let h = c .before .before .before .before .loop-test .taken in
-    let k = getD (c .before .before .before .before .before .before .before .before .before .args .file .now) (c .before .before .before .before .before .loop .at) 0 in
-    let n = c .before .wide2 .ensures .0 in
-    let size : c .before .wide2 .result ≡ bodyLength k =
-    n ∙ ap₂ (λ (xs : List ℕ) (i : ℕ). getD xs i 0) (c .before .before .before .before .before .before .lengths .ensures) (c .before .before .wide .ensures .0) ∙ length-at k in
-    let room = walk-room w h in
-    omega arith
-
-add-statement-3 : tie.Need-add-statement-3 Inv-loop μ-loop
-add-statement-3 c =
-    let w = c .before .before .before .before .before .loop .inv .1 .0 in
-    let h = c .before .before .before .before .loop-test .taken in
-    let k = getD (c .before .before .before .before .before .before .before .before .before .args .file .now) (c .before .before .before .before .before .loop .at) 0 in
-    let n = c .before .wide2 .ensures .0 in
-    let size : c .before .wide2 .result ≡ bodyLength k =
-    n ∙ ap₂ (λ (xs : List ℕ) (i : ℕ). getD xs i 0) (c .before .before .before .before .before .before .lengths .ensures) (c .before .before .wide .ensures .0) ∙ length-at k in
-    let room = walk-room w h in
-    omega arith
-
-sub-statement : tie.Need-sub-statement Inv-loop μ-loop
-sub-statement c =
-    let w = c .before .before .before .before .before .loop .inv .1 .0 in
-    let h = c .before .before .before .before .loop-test .taken in
-    let k = getD (c .before .before .before .before .before .before .before .before .before .args .file .now) (c .before .before .before .before .before .loop .at) 0 in
-    let n = c .before .wide2 .ensures .0 in
-    let size : c .before .wide2 .result ≡ bodyLength k =
-    n ∙ ap₂ (λ (xs : List ℕ) (i : ℕ). getD xs i 0) (c .before .before .before .before .before .before .lengths .ensures) (c .before .before .wide .ensures .0) ∙ length-at k in
-    let room = walk-room w h in
-    omega arith
-
-part-statement-start : tie.Need-part-statement-start Inv-loop μ-loop
-part-statement-start c =
-    let w = c .before .before .before .before .before .loop .inv .1 .0 in
-    let h = c .before .before .before .before .loop-test .taken in
-    let k = getD (c .before .before .before .before .before .before .before .before .before .args .file .now) (c .before .before .before .before .before .loop .at) 0 in
-    let n = c .before .wide2 .ensures .0 in
-    let size : c .before .wide2 .result ≡ bodyLength k =
-    n ∙ ap₂ (λ (xs : List ℕ) (i : ℕ). getD xs i 0) (c .before .before .before .before .before .before .lengths .ensures) (c .before .before .wide .ensures .0) ∙ length-at k in
-    let room = walk-room w h in
-    omega arith
-
-part-statement-end : tie.Need-part-statement-end Inv-loop μ-loop
-part-statement-end c =
-    let w = c .before .before .before .before .before .loop .inv .1 .0 in
-    let h = c .before .before .before .before .loop-test .taken in
-    let k = getD (c .before .before .before .before .before .before .before .before .before .args .file .now) (c .before .before .before .before .before .loop .at) 0 in
-    let n = c .before .wide2 .ensures .0 in
-    let size : c .before .wide2 .result ≡ bodyLength k =
-    n ∙ ap₂ (λ (xs : List ℕ) (i : ℕ). getD xs i 0) (c .before .before .before .before .before .before .lengths .ensures) (c .before .before .wide .ensures .0) ∙ length-at k in
-    let room = walk-room w h in
-    omega arith
-
-statement-requires : tie.Need-statement-requires Inv-loop μ-loop
-statement-requires c κs =
     let w = c .before .before .before .before .before .before .loop .inv .1 .0 in
     let h = c .before .before .before .before .before .loop-test .taken in
     let k = getD (c .before .before .before .before .before .before .before .before .before .before .args .file .now) (c .before .before .before .before .before .before .loop .at) 0 in
@@ -120,68 +58,141 @@ statement-requires c κs =
     let size : c .before .before .wide2 .result ≡ bodyLength k =
     n ∙ ap₂ (λ (xs : List ℕ) (i : ℕ). getD xs i 0) (c .before .before .before .before .before .before .before .lengths .ensures) (c .before .before .before .wide .ensures .0) ∙ length-at k in
     let room = walk-room w h in
-    let pre = c .before .before .before .before .before .before .before .before .before .before .pre in
-    let long : 2432 ≤ length (c .before .before .before .before .before .before .loop .t) = omega (arith, c .before .before .before .before .before .before .loop .inv .0, pre .0) in
-    (long, walk-range w h (c .before .before .wide2 .result) size, pre .2, pre .3, pre .4, pre .5)
+    omega arith
+
+add-statement-2 : tie.Need-add-statement-2 Inv-loop μ-loop
+add-statement-2 c =
+    let w = c .before .before .before .before .before .before .loop .inv .1 .0 in
+    let h = c .before .before .before .before .before .loop-test .taken in
+    let k = getD (c .before .before .before .before .before .before .before .before .before .before .args .file .now) (c .before .before .before .before .before .before .loop .at) 0 in
+    let n = c .before .before .wide2 .ensures .0 in
+    let size : c .before .before .wide2 .result ≡ bodyLength k =
+    n ∙ ap₂ (λ (xs : List ℕ) (i : ℕ). getD xs i 0) (c .before .before .before .before .before .before .before .lengths .ensures) (c .before .before .before .wide .ensures .0) ∙ length-at k in
+    let room = walk-room w h in
+    omega arith
+
+add-statement-3 : tie.Need-add-statement-3 Inv-loop μ-loop
+add-statement-3 c =
+    let w = c .before .before .before .before .before .before .loop .inv .1 .0 in
+    let h = c .before .before .before .before .before .loop-test .taken in
+    let k = getD (c .before .before .before .before .before .before .before .before .before .before .args .file .now) (c .before .before .before .before .before .before .loop .at) 0 in
+    let n = c .before .before .wide2 .ensures .0 in
+    let size : c .before .before .wide2 .result ≡ bodyLength k =
+    n ∙ ap₂ (λ (xs : List ℕ) (i : ℕ). getD xs i 0) (c .before .before .before .before .before .before .before .lengths .ensures) (c .before .before .before .wide .ensures .0) ∙ length-at k in
+    let room = walk-room w h in
+    omega arith
+
+sub-statement : tie.Need-sub-statement Inv-loop μ-loop
+sub-statement c =
+    let w = c .before .before .before .before .before .before .loop .inv .1 .0 in
+    let h = c .before .before .before .before .before .loop-test .taken in
+    let k = getD (c .before .before .before .before .before .before .before .before .before .before .args .file .now) (c .before .before .before .before .before .before .loop .at) 0 in
+    let n = c .before .before .wide2 .ensures .0 in
+    let size : c .before .before .wide2 .result ≡ bodyLength k =
+    n ∙ ap₂ (λ (xs : List ℕ) (i : ℕ). getD xs i 0) (c .before .before .before .before .before .before .before .lengths .ensures) (c .before .before .before .wide .ensures .0) ∙ length-at k in
+    let room = walk-room w h in
+    omega arith
+
+part-statement-start : tie.Need-part-statement-start Inv-loop μ-loop
+part-statement-start c =
+    let w = c .before .before .before .before .before .before .loop .inv .1 .0 in
+    let h = c .before .before .before .before .before .loop-test .taken in
+    let k = getD (c .before .before .before .before .before .before .before .before .before .before .args .file .now) (c .before .before .before .before .before .before .loop .at) 0 in
+    let n = c .before .before .wide2 .ensures .0 in
+    let size : c .before .before .wide2 .result ≡ bodyLength k =
+    n ∙ ap₂ (λ (xs : List ℕ) (i : ℕ). getD xs i 0) (c .before .before .before .before .before .before .before .lengths .ensures) (c .before .before .before .wide .ensures .0) ∙ length-at k in
+    let room = walk-room w h in
+    omega arith
+
+part-statement-end : tie.Need-part-statement-end Inv-loop μ-loop
+part-statement-end c =
+    let w = c .before .before .before .before .before .before .loop .inv .1 .0 in
+    let h = c .before .before .before .before .before .loop-test .taken in
+    let k = getD (c .before .before .before .before .before .before .before .before .before .before .args .file .now) (c .before .before .before .before .before .before .loop .at) 0 in
+    let n = c .before .before .wide2 .ensures .0 in
+    let size : c .before .before .wide2 .result ≡ bodyLength k =
+    n ∙ ap₂ (λ (xs : List ℕ) (i : ℕ). getD xs i 0) (c .before .before .before .before .before .before .before .lengths .ensures) (c .before .before .before .wide .ensures .0) ∙ length-at k in
+    let room = walk-room w h in
+    omega arith
+
+statement-requires : tie.Need-statement-requires Inv-loop μ-loop
+statement-requires c κs =
+    let w = c .before .before .before .before .before .before .before .loop .inv .1 .0 in
+    let h = c .before .before .before .before .before .before .loop-test .taken in
+    let k = getD (c .before .before .before .before .before .before .before .before .before .before .before .args .file .now) (c .before .before .before .before .before .before .before .loop .at) 0 in
+    let n = c .before .before .before .wide2 .ensures .0 in
+    let size : c .before .before .before .wide2 .result ≡ bodyLength k =
+    n ∙ ap₂ (λ (xs : List ℕ) (i : ℕ). getD xs i 0) (c .before .before .before .before .before .before .before .before .lengths .ensures) (c .before .before .before .before .wide .ensures .0) ∙ length-at k in
+    let room = walk-room w h in
+    let pre = c .before .before .before .before .before .before .before .before .before .before .before .pre in
+    let long : 2432 ≤ length (c .before .before .before .before .before .before .before .loop .t) = omega (arith, c .before .before .before .before .before .before .before .loop .inv .0 .0, pre .0) in
+    (long, walk-range w h (c .before .before .before .wide2 .result) size, pre .2, pre .3, pre .4, pre .5, c .before .before .before .before .before .before .before .loop .inv .0 .1)
 
 add-at : tie.Need-add-at Inv-loop μ-loop
 add-at c =
-    let w = c .before .before .before .before .before .before .before .before .before .loop .inv .1 .0 in
-    let h = c .before .before .before .before .before .before .before .before .loop-test .taken in
-    let k = getD (c .before .before .before .before .before .before .before .before .before .before .before .before .before .args .file .now) (c .before .before .before .before .before .before .before .before .before .loop .at) 0 in
-    let n = c .before .before .before .before .before .wide2 .ensures .0 in
-    let size : c .before .before .before .before .before .wide2 .result ≡ bodyLength k =
-    n ∙ ap₂ (λ (xs : List ℕ) (i : ℕ). getD xs i 0) (c .before .before .before .before .before .before .before .before .before .before .lengths .ensures) (c .before .before .before .before .before .before .wide .ensures .0) ∙ length-at k in
+    let w = c .before .before .before .before .before .before .before .before .before .before .loop .inv .1 .0 in
+    let h = c .before .before .before .before .before .before .before .before .before .loop-test .taken in
+    let k = getD (c .before .before .before .before .before .before .before .before .before .before .before .before .before .before .args .file .now) (c .before .before .before .before .before .before .before .before .before .before .loop .at) 0 in
+    let n = c .before .before .before .before .before .before .wide2 .ensures .0 in
+    let size : c .before .before .before .before .before .before .wide2 .result ≡ bodyLength k =
+    n ∙ ap₂ (λ (xs : List ℕ) (i : ℕ). getD xs i 0) (c .before .before .before .before .before .before .before .before .before .before .before .lengths .ensures) (c .before .before .before .before .before .before .before .wide .ensures .0) ∙ length-at k in
     let room = walk-room w h in
     omega arith
 
 add-at-2 : tie.Need-add-at-2 Inv-loop μ-loop
 add-at-2 c =
-    let w = c .before .before .before .before .before .before .before .before .before .loop .inv .1 .0 in
-    let h = c .before .before .before .before .before .before .before .before .loop-test .taken in
-    let k = getD (c .before .before .before .before .before .before .before .before .before .before .before .before .before .args .file .now) (c .before .before .before .before .before .before .before .before .before .loop .at) 0 in
-    let n = c .before .before .before .before .before .wide2 .ensures .0 in
-    let size : c .before .before .before .before .before .wide2 .result ≡ bodyLength k =
-    n ∙ ap₂ (λ (xs : List ℕ) (i : ℕ). getD xs i 0) (c .before .before .before .before .before .before .before .before .before .before .lengths .ensures) (c .before .before .before .before .before .before .wide .ensures .0) ∙ length-at k in
+    let w = c .before .before .before .before .before .before .before .before .before .before .loop .inv .1 .0 in
+    let h = c .before .before .before .before .before .before .before .before .before .loop-test .taken in
+    let k = getD (c .before .before .before .before .before .before .before .before .before .before .before .before .before .before .args .file .now) (c .before .before .before .before .before .before .before .before .before .before .loop .at) 0 in
+    let n = c .before .before .before .before .before .before .wide2 .ensures .0 in
+    let size : c .before .before .before .before .before .before .wide2 .result ≡ bodyLength k =
+    n ∙ ap₂ (λ (xs : List ℕ) (i : ℕ). getD xs i 0) (c .before .before .before .before .before .before .before .before .before .before .before .lengths .ensures) (c .before .before .before .before .before .before .before .wide .ensures .0) ∙ length-at k in
     let room = walk-room w h in
     omega arith
 
 loop-less : tie.Need-loop-less Inv-loop μ-loop
 loop-less c =
-    let w = c .before .before .before .before .before .before .before .before .before .loop .inv .1 .0 in
-    let h = c .before .before .before .before .before .before .before .before .loop-test .taken in
-    let k = getD (c .before .before .before .before .before .before .before .before .before .before .before .before .before .args .file .now) (c .before .before .before .before .before .before .before .before .before .loop .at) 0 in
-    let n = c .before .before .before .before .before .wide2 .ensures .0 in
-    let size : c .before .before .before .before .before .wide2 .result ≡ bodyLength k =
-    n ∙ ap₂ (λ (xs : List ℕ) (i : ℕ). getD xs i 0) (c .before .before .before .before .before .before .before .before .before .before .lengths .ensures) (c .before .before .before .before .before .before .wide .ensures .0) ∙ length-at k in
+    let w = c .before .before .before .before .before .before .before .before .before .before .loop .inv .1 .0 in
+    let h = c .before .before .before .before .before .before .before .before .before .loop-test .taken in
+    let k = getD (c .before .before .before .before .before .before .before .before .before .before .before .before .before .before .args .file .now) (c .before .before .before .before .before .before .before .before .before .before .loop .at) 0 in
+    let n = c .before .before .before .before .before .before .wide2 .ensures .0 in
+    let size : c .before .before .before .before .before .before .wide2 .result ≡ bodyLength k =
+    n ∙ ap₂ (λ (xs : List ℕ) (i : ℕ). getD xs i 0) (c .before .before .before .before .before .before .before .before .before .before .before .lengths .ensures) (c .before .before .before .before .before .before .before .wide .ensures .0) ∙ length-at k in
     let room = walk-room w h in
     omega arith
 
 loop-again : tie.Need-loop-again Inv-loop μ-loop
 loop-again c =
-    let w = c .before .before .before .before .before .before .before .before .before .loop .inv .1 .0 in
-    let h = c .before .before .before .before .before .before .before .before .loop-test .taken in
-    let k = getD (c .before .before .before .before .before .before .before .before .before .before .before .before .before .args .file .now) (c .before .before .before .before .before .before .before .before .before .loop .at) 0 in
-    let n = c .before .before .before .before .before .wide2 .ensures .0 in
-    let size : c .before .before .before .before .before .wide2 .result ≡ bodyLength k =
-    n ∙ ap₂ (λ (xs : List ℕ) (i : ℕ). getD xs i 0) (c .before .before .before .before .before .before .before .before .before .before .lengths .ensures) (c .before .before .before .before .before .before .wide .ensures .0) ∙ length-at k in
+    let w = c .before .before .before .before .before .before .before .before .before .before .loop .inv .1 .0 in
+    let h = c .before .before .before .before .before .before .before .before .before .loop-test .taken in
+    let k = getD (c .before .before .before .before .before .before .before .before .before .before .before .before .before .before .args .file .now) (c .before .before .before .before .before .before .before .before .before .before .loop .at) 0 in
+    let n = c .before .before .before .before .before .before .wide2 .ensures .0 in
+    let size : c .before .before .before .before .before .before .wide2 .result ≡ bodyLength k =
+    n ∙ ap₂ (λ (xs : List ℕ) (i : ℕ). getD xs i 0) (c .before .before .before .before .before .before .before .before .before .before .before .lengths .ensures) (c .before .before .before .before .before .before .before .wide .ensures .0) ∙ length-at k in
     let room = walk-room w h in
-    let r = c .before .before .before .before .before .before .before .before .before .loop in
-    let n = c .before .before .before .before .before .wide2 .result in (
-      search needs,
+    let r = c .before .before .before .before .before .before .before .before .before .before .loop in
+    let n = c .before .before .before .before .before .before .wide2 .result in (
+      (c .before .before .statement .kept .0 ∙ r .inv .0 .0, c .before .before .statement .ensures .1),
       (
         walk-next w h n size,
-        λ p returned old new l v within.
-            let done = r .inv .1 .1 p returned old new l v within in
-            resumes-next w h n size p done (c .before .before .statement .ensures p returned old new l v (λ x y i. done .reaches .adds x y (within x y i))),
+        λ p returned old new l v within f.
+            let done = r .inv .1 .1 p returned old new l v within f in
+            let next = c .before .before .statement .ensures .0 p returned old new l v (within-on new within (done .0 .reaches)) (done .1) in
+            (resumes-next w h n size p (done .0) (next .0), next .1),
       ),
     )
 
 same-length : tie.Need-same-length Inv-loop μ-loop
-same-length c = c .before .loop .inv .0
+same-length c = c .before .loop .inv .0 .0
 
 returns : tie.Need-returns Inv-loop μ-loop
-returns c = λ p returned old new l v within. walk-end p (c .before .loop .inv .1 .0) (c .loop-test .left) (c .before .loop .inv .1 .1 p returned old new l v within)
+returns c =
+    let inv = c .before .loop .inv in (
+      λ p returned old new l v within f.
+          let done = inv .1 .1 p returned old new l v within f in
+          (walk-end p (inv .1 .0) (c .loop-test .left) (done .0), done .1),
+      inv .0 .1,
+    )
 
 pub host-spec : {M : Type 1} → statement M
 host-spec =

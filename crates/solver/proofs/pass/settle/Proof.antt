@@ -18,13 +18,13 @@ use Rattle.solver.proofs.pass.settle.Statement.{statement}
 use Rattle.solver.proofs.pass.settle.Tie as tie
 
 abbrev Inv-loop : tie.InvT-loop
-Inv-loop t₀ file types flags formals masks returned functions classes low₀ high₀ last₀ chain-words₀ fresh₀ methods₀ added₀ handed₀ again₀ t low high last chain-words fresh methods added handed again =
+Inv-loop t₀ file types flags formals masks returned functions classes low₀ high₀ last₀ chain-words₀ fresh₀ methods₀ added₀ handed₀ full₀ again₀ t low high last chain-words fresh methods added handed full again =
     (length t ≡ length t₀) × (length low ≡ 2048) × (length high ≡ 384) × (length last ≡ 38) × (length chain-words ≡ 256) × (length fresh ≡ 256)
-    × (length methods ≡ 256) × (length added ≡ 256) × (length handed ≡ 64)
-    × Settling (passRules (programOf (readFile 64 file)) file) returned t₀ t again low high last chain-words methods handed
+    × (length methods ≡ 256) × (length added ≡ 256) × (length handed ≡ 64) × (length full ≡ 64)
+    × Settling (passRules (programOf (readFile 64 file)) file) returned t₀ t again low high last chain-words methods handed full
 
 abbrev μ-loop : tie.MeasureT-loop
-μ-loop t₀ file types flags formals masks returned functions classes low₀ high₀ last₀ chain-words₀ fresh₀ methods₀ added₀ handed₀ again₀ t low high last chain-words fresh methods added handed again =
+μ-loop t₀ file types flags formals masks returned functions classes low₀ high₀ last₀ chain-words₀ fresh₀ methods₀ added₀ handed₀ full₀ again₀ t low high last chain-words fresh methods added handed full again =
     left 64 again t
 
 function-labels-requires : tie.Need-function-labels-requires Inv-loop μ-loop
@@ -45,6 +45,7 @@ loop-holds c =
       length-replicate {A = ℕ} 256 0,
       length-replicate {A = ℕ} 256 0,
       length-replicate {A = ℕ} 64 0,
+      length-replicate {A = ℕ} 64 0,
       settling-first (passRules (programOf (readFile 64 (start .args .file .now))) (start .args .file .now)) (start .args .returned .now) (start .args .t .now) (start .pre .3),
     )
 
@@ -57,7 +58,7 @@ renew-chains-requires c κs =
     let start = l .before .before .before .before .before .before in
     let a = start .args in
     let inv = l .loop .inv in
-    let s = inv .9 in
+    let s = inv .10 in
     (omega (arith, inv .0, start .pre .0), inv .4, inv .5)
 
 renew-methods-requires : tie.Need-renew-methods-requires Inv-loop μ-loop
@@ -68,7 +69,7 @@ renew-methods-requires c κs =
     let start = l .before .before .before .before .before .before in
     let a = start .args in
     let inv = l .loop .inv in
-    let s = inv .9 in
+    let s = inv .10 in
     let chained = r .renew-chains .ensures .0 (s .old) (s .same) (s .chained) in
     (omega (arith, inv .0, start .pre .0), m .stirred-labels .ensures, inv .6, inv .7, λ v x h o. chained v h .part x o)
 
@@ -78,28 +79,28 @@ renew-handed-requires c κs =
     let start = l .before .before .before .before .before .before in
     let a = start .args in
     let inv = l .loop .inv in
-    let s = inv .9 in
+    let s = inv .10 in
     (omega (arith, inv .0, start .pre .0), inv .8)
 
 pass-requires : tie.Need-pass-requires Inv-loop μ-loop
 pass-requires c κs =
-    let h = c .before .before .before .before .before .before .before .before in
+    let h = c .before .before .before .before .before .before .before .before .before in
     let r = h .before .before .before .before .before .before .before .before .before .before .before in
     let m = r .before .before .before .before .before in
     let l = m .before .before .before in
     let start = l .before .before .before .before .before .before in
     let a = start .args in
     let inv = l .loop .inv in
-    let s = inv .9 in
+    let s = inv .10 in
     let chained = r .renew-chains .ensures .0 (s .old) (s .same) (s .chained) in
     let size : length (a .formals .now) ≡ 448 = ap (λ (p : Program). length (p .sheet .formals)) (start .pre .2)
     ∙ readable-ready 64 (a .file .now) (omega arith) (start .pre .1) .made .sized .formals-length in
-    (omega (arith, inv .0, start .pre .0), start .pre .1, size, h .renew-handed .ensures .1, m .stirred-labels .ensures, λ v x i o. chained v i .part x o)
+    (omega (arith, inv .0, start .pre .0), start .pre .1, size, h .renew-handed .ensures .1, m .stirred-labels .ensures, λ v x i o. chained v i .part x o, inv .9)
 
 note-requires : tie.Need-note-requires Inv-loop μ-loop
 note-requires c κs =
     let p = c .before .before .before .before .before .before in
-    let h = p .before .before .before .before .before .before .before .before .before in
+    let h = p .before .before .before .before .before .before .before .before .before .before in
     let m = h .before .before .before .before in
     let r = m .before .before .before .before .before .before .before in
     let g = r .before .before .before .before .before in
@@ -110,7 +111,7 @@ note-requires c κs =
     let start = known .before in
     let a = start .args in
     let inv = l .loop .inv in
-    let s = inv .9 in
+    let s = inv .10 in
     let file = a .file .now in
     let chained = r .renew-chains .ensures .0 (s .old) (s .same) (s .chained) in
     let found = m .renew-methods .ensures .0 (s .old) (s .within) (s .same) chained (s .found) in
@@ -118,14 +119,14 @@ note-requires c κs =
     let arrays = laid file (a .types .now) (a .flags .now) (a .formals .now) (a .masks .now) (a .returned .now) (start .pre .1) (start .pre .2)
     (f .function-labels .result) (n .name-classes .last .1 .0) (f .function-labels .ensures .0) (f .function-labels .ensures .1) (n .name-classes .ensures) in
     let types = program-types file (a .types .now) (a .flags .now) (a .formals .now) (a .masks .now) (a .returned .now) (start .pre .1) (start .pre .2) in
-    let resumed = p .pass .ensures (programOf (readFile 64 file)) (a .returned .now) (s .old) (l .loop .t) types arrays
-    (record { within = s .within; same = s .same; stirs = g .stirred-labels .ensures; chained = chained; found = found; back = back }) (λ x y i. i) in
-    (omega (arith, resumed .reaches .same-length, inv .0, start .pre .0), inv .1, inv .2, inv .3)
+    let resumed = p .pass .ensures .0 (programOf (readFile 64 file)) (a .returned .now) (s .old) (l .loop .t) types arrays
+    (record { within = s .within; same = s .same; stirs = g .stirred-labels .ensures; chained = chained; found = found; back = back }) (λ x y i. i) (s .held) in
+    (omega (arith, resumed .0 .reaches .same-length, inv .0, start .pre .0), inv .1, inv .2, inv .3)
 
 loop-less : tie.Need-loop-less Inv-loop μ-loop
 loop-less c =
     let p = c .before .before .before .before .before .before .before in
-    let h = p .before .before .before .before .before .before .before .before .before in
+    let h = p .before .before .before .before .before .before .before .before .before .before in
     let m = h .before .before .before .before in
     let r = m .before .before .before .before .before .before .before in
     let g = r .before .before .before .before .before in
@@ -136,7 +137,7 @@ loop-less c =
     let start = known .before in
     let a = start .args in
     let inv = l .loop .inv in
-    let s = inv .9 in
+    let s = inv .10 in
     let file = a .file .now in
     let chained = r .renew-chains .ensures .0 (s .old) (s .same) (s .chained) in
     let found = m .renew-methods .ensures .0 (s .old) (s .within) (s .same) chained (s .found) in
@@ -144,14 +145,14 @@ loop-less c =
     let arrays = laid file (a .types .now) (a .flags .now) (a .formals .now) (a .masks .now) (a .returned .now) (start .pre .1) (start .pre .2)
     (f .function-labels .result) (n .name-classes .last .1 .0) (f .function-labels .ensures .0) (f .function-labels .ensures .1) (n .name-classes .ensures) in
     let types = program-types file (a .types .now) (a .flags .now) (a .formals .now) (a .masks .now) (a .returned .now) (start .pre .1) (start .pre .2) in
-    let resumed = p .pass .ensures (programOf (readFile 64 file)) (a .returned .now) (s .old) (l .loop .t) types arrays
-    (record { within = s .within; same = s .same; stirs = g .stirred-labels .ensures; chained = chained; found = found; back = back }) (λ x y i. i) in
-    resumes-left (g .before .before .loop-test .taken) resumed
+    let resumed = p .pass .ensures .0 (programOf (readFile 64 file)) (a .returned .now) (s .old) (l .loop .t) types arrays
+    (record { within = s .within; same = s .same; stirs = g .stirred-labels .ensures; chained = chained; found = found; back = back }) (λ x y i. i) (s .held) in
+    resumes-left (g .before .before .loop-test .taken) (resumed .0)
 
 loop-again : tie.Need-loop-again Inv-loop μ-loop
 loop-again c =
     let p = c .before .before .before .before .before .before .before in
-    let h = p .before .before .before .before .before .before .before .before .before in
+    let h = p .before .before .before .before .before .before .before .before .before .before in
     let m = h .before .before .before .before in
     let r = m .before .before .before .before .before .before .before in
     let g = r .before .before .before .before .before in
@@ -162,7 +163,7 @@ loop-again c =
     let start = known .before in
     let a = start .args in
     let inv = l .loop .inv in
-    let s = inv .9 in
+    let s = inv .10 in
     let file = a .file .now in
     let chained = r .renew-chains .ensures .0 (s .old) (s .same) (s .chained) in
     let found = m .renew-methods .ensures .0 (s .old) (s .within) (s .same) chained (s .found) in
@@ -170,11 +171,11 @@ loop-again c =
     let arrays = laid file (a .types .now) (a .flags .now) (a .formals .now) (a .masks .now) (a .returned .now) (start .pre .1) (start .pre .2)
     (f .function-labels .result) (n .name-classes .last .1 .0) (f .function-labels .ensures .0) (f .function-labels .ensures .1) (n .name-classes .ensures) in
     let types = program-types file (a .types .now) (a .flags .now) (a .formals .now) (a .masks .now) (a .returned .now) (start .pre .1) (start .pre .2) in
-    let resumed = p .pass .ensures (programOf (readFile 64 file)) (a .returned .now) (s .old) (l .loop .t) types arrays
-    (record { within = s .within; same = s .same; stirs = g .stirred-labels .ensures; chained = chained; found = found; back = back }) (λ x y i. i) in
+    let resumed = p .pass .ensures .0 (programOf (readFile 64 file)) (a .returned .now) (s .old) (l .loop .t) types arrays
+    (record { within = s .within; same = s .same; stirs = g .stirred-labels .ensures; chained = chained; found = found; back = back }) (λ x y i. i) (s .held) in
     let small = s .reaches .small (λ i. known .slice-known .given i .fits) in
     let note = c .note .ensures in (
-      resumed .reaches .same-length ∙ inv .0,
+      resumed .0 .reaches .same-length ∙ inv .0,
       note .1 .1 .0,
       note .1 .1 .1,
       note .1 .1 .2,
@@ -183,7 +184,8 @@ loop-again c =
       m .renew-methods .ensures .1 .0,
       m .renew-methods .ensures .1 .1,
       h .renew-handed .ensures .1,
-      settling-next _ _ _ _ _ _ (r .renew-chains .last .1 .1 .1 .0) (m .renew-methods .last .1 .1 .1 .1 .1 .1 .0) (h .renew-handed .result) s chained found back resumed (note .0) (note .1 .0 (l .loop .t) small (resumed .reaches .adds) (s .sizes)),
+      p .pass .ensures .1,
+      settling-next _ _ _ _ _ _ _ (r .renew-chains .last .1 .1 .1 .0) (m .renew-methods .last .1 .1 .1 .1 .1 .1 .0) (h .renew-handed .result) s chained found back (resumed .0) (resumed .1) (note .0) (note .1 .0 (l .loop .t) small (resumed .0 .reaches .adds) (s .sizes)),
     )
 
 same-length : tie.Need-same-length Inv-loop μ-loop
@@ -194,7 +196,7 @@ returns c =
     let start = c .before .before .before .before .before .before .before in
     let known = c .before .before .before .before .before .before in
     let file = start .args .file .now in
-    settling-least (rules 64 (programOf (readFile 64 file))) (c .before .loop .inv .9) (rules-fit 64 file (omega arith) (start .pre .1))
+    settling-least (rules 64 (programOf (readFile 64 file))) (c .before .loop .inv .10) (rules-fit 64 file (omega arith) (start .pre .1))
     (record { long = start .pre .0; small = λ i. known .slice-known .given i .fits }) (λ v. to-pass file v) (λ v. from-pass file v) (c .loop-test .left)
 
 pub settle-spec : {M : Type 1} → statement M

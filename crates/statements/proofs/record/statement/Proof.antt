@@ -4,6 +4,7 @@ use Rattle.rules.proofs.Resumes.{sweeps-resumes, resumes-none}
 use Rattle.program.specs.Statement.{statementsOf}
 use Rattle.program.specs.Program.{namesOf, returnsOf, statements, guestsStatements}
 use Rattle.statements.specs.Desk.{desk}
+use Rattle.statements.proofs.Finds.{keeping}
 use Rattle.statements.proofs.Records.{resumes-one, variable-for, silent}
 use borrow.Author.Needs.{needs}
 use Rattle.statements.proofs.record.statement.Statement.{statement}
@@ -28,7 +29,7 @@ load-record-requires : tie.Need-load-record-requires
 load-record-requires c κs = let pre = c .before .before .before .before .pre in (pre .0, rw (c .before .match .keys6) at (pre .1), pre .4, pre .5)
 
 store-record-requires : tie.Need-store-record-requires
-store-record-requires c κs = let pre = c .before .before .before .before .pre in (pre .0, rw (c .before .match .keys7) at (pre .1))
+store-record-requires c κs = let pre = c .before .before .before .before .before .pre in (pre .0, rw (c .before .before .match .keys7) at (pre .1), pre .6)
 
 make-record-requires : tie.Need-make-record-requires
 make-record-requires c κs = let pre = c .before .before .before .before .pre in (pre .0, rw (c .before .match .keys8) at (pre .1))
@@ -57,8 +58,11 @@ same-length c = search needs
 returns : tie.Need-returns
 unfolding statementsOf namesOf returnsOf statements guestsStatements
 returns c =
-    λ p returned old new laid view within.
-    rw (c .before .before .before .before .match .keys1) (sweeps-resumes within (variable-for (desk [] [] [] [] []) p (c .before .before .before .before .before .before .before .args .body .now) (c .before .before .variable-record .ensures)))
+    let start = c .before .before .before .before .before .before .before in (
+      λ p returned old new laid view within f.
+          rw (c .before .before .before .before .match .keys1) (keeping (start .args .full .now) (sweeps-resumes within (variable-for (desk [] [] [] [] []) p (start .args .body .now) (c .before .before .variable-record .ensures))) f),
+      start .pre .6,
+    )
 
 same-length-2 : tie.Need-same-length-2
 same-length-2 c = search needs
@@ -66,8 +70,11 @@ same-length-2 c = search needs
 returns-2 : tie.Need-returns-2
 unfolding statementsOf namesOf returnsOf statements guestsStatements
 returns-2 c =
-    λ p returned old new laid view within.
-    rw (c .before .before .before .before .match .keys2) (sweeps-resumes within (c .before .before .grant-record .ensures))
+    let start = c .before .before .before .before .before .before .before in (
+      λ p returned old new laid view within f.
+          rw (c .before .before .before .before .match .keys2) (keeping (start .args .full .now) (sweeps-resumes within (c .before .before .grant-record .ensures)) f),
+      start .pre .6,
+    )
 
 same-length-3 : tie.Need-same-length-3
 same-length-3 c = search needs
@@ -75,8 +82,11 @@ same-length-3 c = search needs
 returns-3 : tie.Need-returns-3
 unfolding statementsOf namesOf returnsOf statements guestsStatements
 returns-3 c =
-    λ p returned old new laid view within.
-    rw (c .before .before .before .before .match .keys3) (sweeps-resumes within (c .before .before .property-record .ensures))
+    let start = c .before .before .before .before .before .before .before in (
+      λ p returned old new laid view within f.
+          rw (c .before .before .before .before .match .keys3) (keeping (start .args .full .now) (sweeps-resumes within (c .before .before .property-record .ensures)) f),
+      start .pre .6,
+    )
 
 same-length-4 : tie.Need-same-length-4
 same-length-4 c = search needs
@@ -84,8 +94,11 @@ same-length-4 c = search needs
 returns-4 : tie.Need-returns-4
 unfolding statementsOf namesOf returnsOf statements guestsStatements
 returns-4 c =
-    λ p returned old new laid view within.
-    rw (c .before .before .before .before .match .keys4) (sweeps-resumes within (c .before .before .held-record .ensures))
+    let start = c .before .before .before .before .before .before .before in (
+      λ p returned old new laid view within f.
+          rw (c .before .before .before .before .match .keys4) (keeping (start .args .full .now) (sweeps-resumes within (c .before .before .held-record .ensures)) f),
+      start .pre .6,
+    )
 
 same-length-5 : tie.Need-same-length-5
 same-length-5 c = search needs
@@ -93,8 +106,11 @@ same-length-5 c = search needs
 returns-5 : tie.Need-returns-5
 unfolding statementsOf namesOf returnsOf statements guestsStatements
 returns-5 c =
-    λ p returned old new laid view within.
-    rw (c .before .before .before .before .match .keys5) (sweeps-resumes within (c .before .before .copy-record .ensures))
+    let start = c .before .before .before .before .before .before .before in (
+      λ p returned old new laid view within f.
+          rw (c .before .before .before .before .match .keys5) (keeping (start .args .full .now) (sweeps-resumes within (c .before .before .copy-record .ensures)) f),
+      start .pre .6,
+    )
 
 same-length-6 : tie.Need-same-length-6
 same-length-6 c = search needs
@@ -102,8 +118,11 @@ same-length-6 c = search needs
 returns-6 : tie.Need-returns-6
 unfolding statementsOf namesOf returnsOf statements guestsStatements
 returns-6 c =
-    λ p returned old new laid view within.
-    rw (c .before .before .before .before .match .keys6) (c .before .before .load-record .ensures p old new (laid .names) (view .same) (view .chained) within)
+    let start = c .before .before .before .before .before .before .before in (
+      λ p returned old new laid view within f.
+          rw (c .before .before .before .before .match .keys6) (keeping (start .args .full .now) (c .before .before .load-record .ensures p old new (laid .names) (view .same) (view .chained) within) f),
+      start .pre .6,
+    )
 
 same-length-7 : tie.Need-same-length-7
 same-length-7 c = search needs
@@ -111,8 +130,11 @@ same-length-7 c = search needs
 returns-7 : tie.Need-returns-7
 unfolding statementsOf namesOf returnsOf statements guestsStatements
 returns-7 c =
-    λ p returned old new laid view within.
-    rw (c .before .before .before .before .match .keys7) (c .before .before .store-record .ensures p old new (laid .names) (laid .flags-are) (view .same) within)
+    let stored = c .before .before .store-record in (
+      λ p returned old new laid view within f.
+          rw (c .before .before .before .before .before .match .keys7) (stored .ensures .0 p old new (laid .names) (laid .flags-are) (view .same) within f),
+      stored .ensures .1,
+    )
 
 same-length-8 : tie.Need-same-length-8
 same-length-8 c = search needs
@@ -120,8 +142,11 @@ same-length-8 c = search needs
 returns-8 : tie.Need-returns-8
 unfolding statementsOf namesOf returnsOf statements guestsStatements
 returns-8 c =
-    λ p returned old new laid view within.
-    rw (c .before .before .before .before .match .keys8) (sweeps-resumes within (c .before .before .make-record .ensures))
+    let start = c .before .before .before .before .before .before .before in (
+      λ p returned old new laid view within f.
+          rw (c .before .before .before .before .match .keys8) (keeping (start .args .full .now) (sweeps-resumes within (c .before .before .make-record .ensures)) f),
+      start .pre .6,
+    )
 
 same-length-9 : tie.Need-same-length-9
 same-length-9 c = search needs
@@ -129,8 +154,11 @@ same-length-9 c = search needs
 returns-9 : tie.Need-returns-9
 unfolding statementsOf namesOf returnsOf statements guestsStatements
 returns-9 c =
-    λ p returned old new laid view within.
-    rw (c .before .before .before .before .match .keys9) (sweeps-resumes within (c .before .before .function-record .ensures))
+    let start = c .before .before .before .before .before .before .before in (
+      λ p returned old new laid view within f.
+          rw (c .before .before .before .before .match .keys9) (keeping (start .args .full .now) (sweeps-resumes within (c .before .before .function-record .ensures)) f),
+      start .pre .6,
+    )
 
 same-length-10 : tie.Need-same-length-10
 same-length-10 c = search needs
@@ -138,8 +166,11 @@ same-length-10 c = search needs
 returns-10 : tie.Need-returns-10
 unfolding statementsOf namesOf returnsOf statements guestsStatements
 returns-10 c =
-    λ p returned old new laid view within.
-    rw (c .before .before .before .before .match .keys10) (c .before .before .call-record .ensures p (c .before .before .before .before .before .before .before .args .flags .now) (c .before .before .before .before .before .before .before .args .classes .now) returned old new laid (view .same) (view .back) within)
+    let start = c .before .before .before .before .before .before .before in (
+      λ p returned old new laid view within f.
+          rw (c .before .before .before .before .match .keys10) (keeping (start .args .full .now) (c .before .before .call-record .ensures p (start .args .flags .now) (start .args .classes .now) returned old new laid (view .same) (view .back) within) f),
+      start .pre .6,
+    )
 
 same-length-11 : tie.Need-same-length-11
 same-length-11 c = search needs
@@ -147,12 +178,17 @@ same-length-11 c = search needs
 returns-11 : tie.Need-returns-11
 unfolding statementsOf namesOf returnsOf statements guestsStatements
 returns-11 c =
-    λ p returned old new laid view within.
-    rw (c .before .before .before .before .match .keys11) (c .before .before .new-record .ensures p (c .before .before .before .before .before .before .before .args .flags .now) (c .before .before .before .before .before .before .before .args .classes .now) returned old new laid (view .same) (view .chained) (view .back) within)
+    let start = c .before .before .before .before .before .before .before in (
+      λ p returned old new laid view within f.
+          rw (c .before .before .before .before .match .keys11) (keeping (start .args .full .now) (c .before .before .new-record .ensures p (start .args .flags .now) (start .args .classes .now) returned old new laid (view .same) (view .chained) (view .back) within) f),
+      start .pre .6,
+    )
 
 returns-12 : tie.Need-returns-12
 unfolding statementsOf namesOf returnsOf statements guestsStatements
-returns-12 c = λ p returned old new laid view within. rw (c .match .keys12) (resumes-one resumes-none)
+returns-12 c =
+    let start = c .before .before .before in
+    (λ p returned old new laid view within f. rw (c .match .keys12) (keeping (start .args .full .now) (resumes-one resumes-none) f), start .pre .6)
 
 same-length-12 : tie.Need-same-length-12
 same-length-12 c = search needs
@@ -160,8 +196,11 @@ same-length-12 c = search needs
 returns-13 : tie.Need-returns-13
 unfolding statementsOf namesOf returnsOf statements guestsStatements
 returns-13 c =
-    λ p returned old new laid view within.
-    rw (c .before .before .before .before .match .keys13) (sweeps-resumes within (c .before .before .throw-record .ensures))
+    let start = c .before .before .before .before .before .before .before in (
+      λ p returned old new laid view within f.
+          rw (c .before .before .before .before .match .keys13) (keeping (start .args .full .now) (sweeps-resumes within (c .before .before .throw-record .ensures)) f),
+      start .pre .6,
+    )
 
 same-length-13 : tie.Need-same-length-13
 same-length-13 c = search needs
@@ -169,8 +208,11 @@ same-length-13 c = search needs
 returns-14 : tie.Need-returns-14
 unfolding statementsOf namesOf returnsOf statements guestsStatements
 returns-14 c =
-    λ p returned old new laid view within.
-    rw (c .before .before .before .before .match .keys14) (sweeps-resumes within (c .before .before .catch-record .ensures))
+    let start = c .before .before .before .before .before .before .before in (
+      λ p returned old new laid view within f.
+          rw (c .before .before .before .before .match .keys14) (keeping (start .args .full .now) (sweeps-resumes within (c .before .before .catch-record .ensures)) f),
+      start .pre .6,
+    )
 
 same-length-14 : tie.Need-same-length-14
 same-length-14 c = search needs
@@ -178,15 +220,21 @@ same-length-14 c = search needs
 returns-15 : tie.Need-returns-15
 unfolding statementsOf namesOf returnsOf statements guestsStatements
 returns-15 c =
-    λ p returned old new laid view within.
-    rw (c .before .before .before .before .match .keys15) (c .before .before .prim-record .ensures p (c .before .before .before .before .before .before .before .args .flags .now) (c .before .before .before .before .before .before .before .args .classes .now) returned old new laid (view .same) (view .found) within)
+    let start = c .before .before .before .before .before .before .before in (
+      λ p returned old new laid view within f.
+          rw (c .before .before .before .before .match .keys15) (keeping (start .args .full .now) (c .before .before .prim-record .ensures p (start .args .flags .now) (start .args .classes .now) returned old new laid (view .same) (view .found) within) f),
+      start .pre .6,
+    )
 
 returns-16 : tie.Need-returns-16
 returns-16 c =
-    let a = c .before .before .before .args in
-    let r = c .match .rest in
-    λ p returned old new laid view within.
-    rw (silent p (a .kind) (a .body .now) (r .0 .0 .0 .0 .0 .0 .0 .0 .0 .0 .0 .0 .0 .0 .1) (r .0 .0 .0 .0 .0 .0 .0 .0 .0 .0 .0 .0 .0 .1) (r .0 .0 .0 .0 .0 .0 .0 .0 .0 .0 .0 .0 .1) (r .0 .0 .0 .0 .0 .0 .0 .0 .0 .0 .0 .1) (r .0 .0 .0 .0 .0 .0 .0 .0 .0 .0 .1) (r .0 .0 .0 .0 .0 .0 .0 .0 .0 .1) (r .0 .0 .0 .0 .0 .0 .0 .0 .1) (r .0 .0 .0 .0 .0 .0 .0 .1) (r .0 .0 .0 .0 .0 .0 .1) (r .0 .0 .0 .0 .0 .1) (r .0 .0 .0 .0 .1) (r .0 .0 .0 .1) (r .0 .0 .1) (r .0 .1) (r .1)) resumes-none
+    let start = c .before .before .before in
+    let a = start .args in
+    let r = c .match .rest in (
+      λ p returned old new laid view within f.
+          rw (silent p (a .kind) (a .body .now) (r .0 .0 .0 .0 .0 .0 .0 .0 .0 .0 .0 .0 .0 .0 .1) (r .0 .0 .0 .0 .0 .0 .0 .0 .0 .0 .0 .0 .0 .1) (r .0 .0 .0 .0 .0 .0 .0 .0 .0 .0 .0 .0 .1) (r .0 .0 .0 .0 .0 .0 .0 .0 .0 .0 .0 .1) (r .0 .0 .0 .0 .0 .0 .0 .0 .0 .0 .1) (r .0 .0 .0 .0 .0 .0 .0 .0 .0 .1) (r .0 .0 .0 .0 .0 .0 .0 .0 .1) (r .0 .0 .0 .0 .0 .0 .0 .1) (r .0 .0 .0 .0 .0 .0 .1) (r .0 .0 .0 .0 .0 .1) (r .0 .0 .0 .0 .1) (r .0 .0 .0 .1) (r .0 .0 .1) (r .0 .1) (r .1)) (keeping (a .full .now) resumes-none f),
+      start .pre .6,
+    )
 
 pub statement-spec : {M : Type 1} → statement M
 statement-spec =

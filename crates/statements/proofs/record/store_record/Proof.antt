@@ -34,12 +34,20 @@ same-length c = search needs
 returns : tie.Need-returns
 unfolding statementsOf
 returns c =
-    let b = c .before .before .before .before .before .before .before .before .before .before .before .before .args .body .now in
-    let x = c .before .before .before .before .before .before .wide in
-    let v = c .before .before .before .before .wide2 in
-    λ p old new named flags same within.
-    store-at p (x .result) (getD b 2 0) (v .result) (getD b 1 0) (getD b 2 0) (getD b 3 0) (x .ensures .0) refl (v .ensures .0)
-    (c .before .before .store .ensures p (getD b 2 0) old new flags (c .before .before .before .before .before .before .before .before .names-by .ensures p named) same within)
+    let stored = c .before .before in
+    let v = stored .before .before .before in
+    let x = v .before .before in
+    let named-by = x .before .before in
+    let start = named-by .before .before .before .before in
+    let b = start .args .body .now in (
+      λ p old new named flags same within f.
+          let done = stored .store .ensures .0 p (getD b 2 0) old new flags (start .pre .1 .1 .1 .1 .0) (named-by .names-by .ensures p named) same within f in (
+            store-at p (x .wide .result) (getD b 2 0) (v .wide2 .result) (getD b 1 0) (getD b 2 0) (getD b 3 0) (x .wide .ensures .0) refl (v .wide2 .ensures .0)
+                (done .0),
+            done .1,
+          ),
+      stored .store .ensures .1,
+    )
 
 pub store-record-spec : {M : Type 1} → statement M
 store-record-spec =

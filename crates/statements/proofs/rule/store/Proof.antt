@@ -19,7 +19,13 @@ same-length : tie.Need-same-length
 same-length c = search needs
 
 returns : tie.Need-returns
-returns c = λ p key old new flags listed same within. sweeps-resumes within (c .before .before .store-all .ensures p key flags listed)
+returns c =
+    let s = c .before .before .store-all in (
+      λ p key old new flags k listed same within f.
+          let done = s .ensures .0 p key flags k listed f in
+          (sweeps-resumes within (done .0), done .1),
+      s .ensures .1,
+    )
 
 returns-2 : tie.Need-returns-2
 returns-2 c =
@@ -27,9 +33,14 @@ returns-2 c =
     let a = c .before .before .noted in
     let start = c .before .before .before .before in
     let g = start .args in
-    let n = neither (a .result) (b .result) (c .if1 .left) in
-    λ p key old new flags listed same within. store-known p (g .last .now) old new (g .t .now) (g .x) key (g .a) (start .pre .1) (start .pre .2) same
-    (note-off (g .last .now) (g .x) (a .result) (a .ensures) (n .0)) (note-off (g .last .now) (g .a) (b .result) (b .ensures) (n .1))
+    let n = neither (a .result) (b .result) (c .if1 .left) in (
+      λ p key old new flags k listed same within f. (
+        store-known p (g .last .now) old new (g .t .now) (g .x) key (g .a) (start .pre .1) (start .pre .2) same
+            (note-off (g .last .now) (g .x) (a .result) (a .ensures) (n .0)) (note-off (g .last .now) (g .a) (b .result) (b .ensures) (n .1)),
+        f,
+      ),
+      start .pre .3,
+    )
 
 pub store-spec : {M : Type 1} → statement M
 store-spec =

@@ -1,11 +1,11 @@
 -- A store for each label of the object: the invariant is that it is done for those below l. Assumes nothing.
 use Rattle.program.specs.Program.{namesOf}
 use borrow.Author.Needs.{needs}
-use mathlib.Core.Path.{_≡_}
+use mathlib.Core.Path.{_≡_, refl, _∙_}
 use mathlib.Core.Bool.{not}
-use Prim.Native.Nat.{_-_, _≤_, _<_}
+use Prim.Native.Nat.{ℕ, _-_, _≤_, _<_}
 use native.Mathlib.Omega.{arith}
-use lib.ListN.{getD}
+use lib.ListN.{length, getD}
 use lib.Dec.{eqb}
 use Rattle.words.proofs.Bits.{On}
 use Rattle.rows.specs.Row.{variable, property}
@@ -14,17 +14,20 @@ use Rattle.rules.specs.Round.{labels}
 use Rattle.rules.specs.Sweep.{Sweeps}
 use Rattle.rules.proofs.Loop.{each-end}
 use Rattle.tables.proofs.Loops.{each-first, each-next}
-use Rattle.statements.proofs.Finds.{store-named}
+use Rattle.lookups.specs.Kept.{Full}
+use Rattle.statements.proofs.Finds.{names-below, store-named}
 use Rattle.statements.proofs.rule.store_all.Statement.{statement}
 use Rattle.statements.proofs.rule.store_all.Tie as tie
 
 abbrev Inv-loop : tie.InvT-loop
-Inv-loop t₀ flags names x a w grew₀ l₀ t grew l =
-    (l ≤ 64) × (l < 64 → On w l)
-    × Sweeps 64 (over (labels l w) (λ m. when (not (eqb (getD flags m 0) 1)) (over (labels 64 names) (λ n. include (property m n) (variable a))))) t₀ t grew
+Inv-loop t₀ full₀ flags names x a w grew₀ l₀ t full grew l =
+    (length t ≡ length t₀) × (length full ≡ 64) × (l ≤ 64) × (l < 64 → On w l)
+    × (Full t₀ full₀ → ((n : ℕ) → On names n → n < 32)
+    → Sweeps 64 (over (labels l w) (λ m. when (not (eqb (getD flags m 0) 1)) (over (labels 64 names) (λ n. include (property m n) (variable a))))) t₀ t grew
+    × Full t full)
 
 abbrev μ-loop : tie.MeasureT-loop
-μ-loop t₀ flags names x a w grew₀ l₀ t grew l = 64 - l
+μ-loop t₀ full₀ flags names x a w grew₀ l₀ t full grew l = 64 - l
 
 mul-w : tie.Need-mul-w Inv-loop μ-loop
 mul-w c = search needs
@@ -36,7 +39,7 @@ next-requires : tie.Need-next-requires Inv-loop μ-loop
 next-requires c κs = search needs
 
 loop-holds : tie.Need-loop-holds Inv-loop μ-loop
-loop-holds c = let n = c .next .ensures in (n .high, n .here, each-first _ _ n)
+loop-holds c = let n = c .next .ensures in (refl, c .before .before .before .pre .3, n .high, n .here, λ f below. (each-first _ _ n, f))
 
 element-copy-out-store-at : tie.Need-element-copy-out-store-at Inv-loop μ-loop
 element-copy-out-store-at c = search needs
@@ -55,9 +58,18 @@ loop-less c = search needs
 
 loop-again : tie.Need-loop-again Inv-loop μ-loop
 loop-again c =
-    let r = c .before .before .before .before .before .before .before .loop in
-    let n = c .next2 .ensures in
-    (n .high, n .here, each-next _ _ _ (r .inv .1 (c .before .before .before .before .before .before .loop-test .taken)) n (r .inv .2) (c .before .before .before .store-at .ensures))
+    let at = c .before .before .before in
+    let r = at .before .before .before .before .before .loop in
+    let n = c .next2 .ensures in (
+      at .store-at .kept .0 ∙ r .inv .0,
+      at .store-at .ensures .1,
+      n .high,
+      n .here,
+      λ f below.
+          let so-far = r .inv .4 f below in
+          let one-more = at .store-at .ensures .0 (so-far .1) below in
+          (each-next _ _ _ (r .inv .3 (at .before .before .before .before .loop-test .taken)) n (so-far .0) (one-more .0), one-more .1),
+    )
 
 same-length : tie.Need-same-length Inv-loop μ-loop
 same-length c = search needs
@@ -68,8 +80,15 @@ returns c =
     let start = c .before .before .before .before in
     let a = start .before .args in
     let e : c .before .loop .l ≡ 64 = omega arith in
-    λ p key flags listed. store-named p (a .x) key (a .a) (a .names) listed (search needs)
-    (rw flags (each-end (variable (a .x)) (λ i. start .slice-known .given i .fits) (rw e at (c .before .loop .inv .2))))
+    let inv = c .before .loop .inv in (
+      λ p key flags k listed f.
+          let done = inv .4 f (λ n o. names-below p key k n (listed .source n o)) in (
+            store-named p (a .x) key (a .a) (a .names) listed (search needs)
+                (rw flags (each-end (variable (a .x)) (λ i. start .slice-known .given i .fits) (rw e at (done .0)))),
+            done .1,
+          ),
+      inv .1,
+    )
 
 pub store-all-spec : {M : Type 1} → statement M
 store-all-spec =
