@@ -11,7 +11,7 @@ use lib.ListN.{getD}
 use lib.Dec.{eqb}
 use borrow.Author.Tests.{eq-eqb, eqb-true}
 use Rattle.words.specs.Words.{union}
-use Rattle.words.proofs.Bits.{On, on-union, on-left, on-right, on-below}
+use Rattle.words.proofs.Bits.{On, on-union, on-left, on-right}
 use Rattle.rows.specs.Row.{variable, property, chain, thrown}
 use Rattle.rules.specs.Table.{Table, Has, Small}
 use Rattle.rules.specs.Rule.{Rule, include, each, over, both, when, _also_}
@@ -98,7 +98,7 @@ told-when t p k r l e h = rw (eq-eqb k 2 e) h
 
 -- ---- a call: its arguments for each function, and two words for all of them
 
-module _ (p : Program) (t : Table) (k y c this : ℕ) (args : List ℕ) (fs back out : ℕ) (small : Small 64 t) (hf : fs < 2 ^ 64)
+module _ (p : Program) (t : Table) (k y c this : ℕ) (args : List ℕ) (fs back out : ℕ) (small : Small 64 t)
     (exact : Exact (λ f. Has t c f × (getD (p .sheet .types) f 0 ≡ 2)) fs) where
   abbrev pub entered : ℕ → Rule
   entered f = include (variable (thisOf (p .sheet) f)) (variable this) also passing p (formalsOf (p .sheet) f) args
@@ -157,8 +157,8 @@ module _ (p : Program) (t : Table) (k y c this : ℕ) (args : List ℕ) (fs back
     where
       go : getD (p .sheet .types) (h .0) 0 ≡ 2 → Told 64 t (entering p k y this args (h .0)) r l
           → Told 64 t (both (over (labels 64 fs) entered) (both returning throwing)) r l
-      go e (inl g) = let o = exact .all (h .0) (h .1, e) in inl (h .0, on-label 64 fs (h .0) (on-below 64 fs (h .0) hf o) o, inl g)
-      go e (inr (inl g)) = let o = exact .all (h .0) (h .1, e) in inl (h .0, on-label 64 fs (h .0) (on-below 64 fs (h .0) hf o) o, inr g)
+      go e (inl g) = let o = exact .all (h .0) (h .1, e) in inl (h .0, on-label 64 fs (h .0) (has-label 64 t small c (h .0) (h .1)) o, inl g)
+      go e (inr (inl g)) = let o = exact .all (h .0) (h .1, e) in inl (h .0, on-label 64 fs (h .0) (has-label 64 t small c (h .0) (h .1)) o, inr g)
       go e (inr (inr (inl g))) =
           inr (inl (h .0, h .1, told-when t (over (returnsOf p (h .0)) (λ x. include (variable y) (variable x))) (getD (p .sheet .types) (h .0) 0) r l e g))
       go e (inr (inr (inr g))) = inr (inr (h .0, h .1, told-when t (include (thrown k) (thrown (h .0))) (getD (p .sheet .types) (h .0) 0) r l e g))

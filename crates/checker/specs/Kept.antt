@@ -62,6 +62,10 @@ Meets t words meets = Each 512 (λ i w. Common t (getD words (i / 64) 0) (256 + 
 abbrev pub Chains : Table → List ℕ → Type 0
 Chains t chains = Each 256 (λ v w. Gathered t (getD t v 0) 2304 w) chains
 
+-- for each variable v the functions of S(v)
+abbrev pub Callees : Table → List ℕ → List ℕ → Type 0
+Callees t types callees = Each 256 (λ v fs. Exact (λ f. Has t v f × (getD types f 0 ≡ 2)) fs) callees
+
 -- f is a function that a prim finds from S(v), under name 1 or 2
 abbrev pub Method : Table → List ℕ → ℕ → ℕ → Type 0
 Method t types v f =
@@ -88,11 +92,12 @@ Handed t returned handed = Each 64 (λ f w. Joined t (returnsOf (desk [] [] [] [
 
 -- ---- all of them
 
-pub record Kept (t : Table) (types formals masks returned words unions meets chains hurled gaps handed : List ℕ) : Type 0 where
+pub record Kept (t : Table) (types formals masks returned words unions meets chains callees hurled gaps handed : List ℕ) : Type 0 where
   pub names : Names masks words
   pub joined : Unions t masks unions
   pub common : Meets t words meets
   pub gathered : Chains t chains
+  pub called : Callees t types callees
   pub throws : Hurled t types hurled
   pub holes : Gaps t types formals gaps
   pub back : Handed t returned handed

@@ -10,15 +10,13 @@ ghost use Rattle.program.specs.Program.{thisOf, formalsOf};
 ghost use Rattle.analysis.specs.Rules.{passing, calling, making, converting};
 ghost use Rattle.statements.specs.Desk.{desk};
 ghost use Rattle.checker.specs.Seen.{seen};
-ghost use Rattle.checker.specs.Kept.{Chains, Hurled, Gaps, Handed};
+ghost use Rattle.checker.specs.Kept.{Chains, Callees, Hurled, Gaps, Handed};
 use crate::gather::gather;
 use crate::gather::pick;
-use crate::keep::functions_of;
 use crate::row::look_give;
 use crate::row::look_include;
 use crate::row::look_word;
 use crate::rule::prototypes;
-use crate::view::row_at;
 use tables::wide;
 
 // Each formal of f includes its argument.
@@ -66,6 +64,7 @@ pub fn call<'a>(
     types: &'a [u8; 64],
     formals: &'a [u8; 448],
     returned: &'a [u64; 256],
+    callees: &[u64; 256],
     handed: &[u64; 64],
     k: usize,
     y: usize,
@@ -74,10 +73,10 @@ pub fn call<'a>(
     args: &[u8],
     low: usize,
 ) -> usize
-    requires { ⌜ (2432 ≤ length (now t)) × (k < 64) × (y < 256) × (callee < 256) × (this < 256) × (length (now args) ≡ 6) × (length (now formals) ≡ 448) × (Handed (seen d (now t)) (now returned) (now handed)) ⌝ }
+    requires { ⌜ (2432 ≤ length (now t)) × (k < 64) × (y < 256) × (callee < 256) × (this < 256) × (length (now args) ≡ 6) × (length (now formals) ≡ 448) × (Handed (seen d (now t)) (now returned) (now handed)) × (Callees (seen d (now t)) (now types) (now callees)) ⌝ }
     ensures { λ r. ⌜ Finds 64 (seen d (now (t .entry))) (calling (desk (now (types .entry)) [] (now (formals .entry)) [] (now (returned .entry))) k y callee this (now (args .entry))) low r ⌝ }
 {
-    let fs = functions_of(types, row_at(t, d, callee));
+    let fs = callees[callee];
     let mut best = low;
     let mut f = words::next(fs, 0);
     while f < 64 {
@@ -98,6 +97,7 @@ pub fn make_new<'a>(
     formals: &'a [u8; 448],
     returned: &'a [u64; 256],
     chains: &[u64; 256],
+    callees: &[u64; 256],
     handed: &[u64; 64],
     k: usize,
     y: usize,
@@ -107,7 +107,7 @@ pub fn make_new<'a>(
     args: &[u8],
     low: usize,
 ) -> usize
-    requires { ⌜ (2432 ≤ length (now t)) × (k < 64) × (y < 256) × (callee < 256) × (this < 256) × (l < 64) × (length (now args) ≡ 6) × (length (now formals) ≡ 448) × (Chains (seen d (now t)) (now chains)) × (Handed (seen d (now t)) (now returned) (now handed)) ⌝ }
+    requires { ⌜ (2432 ≤ length (now t)) × (k < 64) × (y < 256) × (callee < 256) × (this < 256) × (l < 64) × (length (now args) ≡ 6) × (length (now formals) ≡ 448) × (Chains (seen d (now t)) (now chains)) × (Handed (seen d (now t)) (now returned) (now handed)) × (Callees (seen d (now t)) (now types) (now callees)) ⌝ }
     ensures { λ r. ⌜ Finds 64 (seen d (now (t .entry))) (making (desk (now (types .entry)) [] (now (formals .entry)) [] (now (returned .entry))) k y callee this l (now (args .entry))) low r ⌝ }
 {
     let one = look_give(t, d, this, l, low);
@@ -119,6 +119,7 @@ pub fn make_new<'a>(
         types,
         formals,
         returned,
+        callees,
         handed,
         k,
         y,

@@ -5,7 +5,7 @@ ghost use lib.ListN.{length};
 ghost use Rattle.rules.specs.Gap.{Finds};
 ghost use Rattle.statements.specs.Desk.{desk, guestRules};
 ghost use Rattle.checker.specs.Seen.{seen};
-ghost use Rattle.checker.specs.Kept.{Names, Unions, Meets, Chains, Handed};
+ghost use Rattle.checker.specs.Kept.{Names, Unions, Meets, Chains, Callees, Handed};
 use crate::function::call;
 use crate::function::make_new;
 use crate::row::look_give;
@@ -27,10 +27,11 @@ pub fn look_guest<'a>(
     unions: &[u64; 512],
     meets: &[u64; 512],
     chains: &[u64; 256],
+    callees: &[u64; 256],
     handed: &[u64; 64],
     low: usize,
 ) -> usize
-    requires { ⌜ (2432 ≤ length (now t)) × (length (now formals) ≡ 448) × (Names (now masks) (now words)) × (Unions (seen d (now t)) (now masks) (now unions)) × (Meets (seen d (now t)) (now words) (now meets)) × (Chains (seen d (now t)) (now chains)) × (Handed (seen d (now t)) (now returned) (now handed)) ⌝ }
+    requires { ⌜ (2432 ≤ length (now t)) × (length (now formals) ≡ 448) × (Names (now masks) (now words)) × (Unions (seen d (now t)) (now masks) (now unions)) × (Meets (seen d (now t)) (now words) (now meets)) × (Chains (seen d (now t)) (now chains)) × (Handed (seen d (now t)) (now returned) (now handed)) × (Callees (seen d (now t)) (now types) (now callees)) ⌝ }
     ensures { λ r. ⌜ Finds 64 (seen d (now (t .entry))) (guestRules (desk (now (types .entry)) (now (flags .entry)) (now (formals .entry)) (now (masks .entry)) (now (returned .entry)))) low r ⌝ }
 {
     let args = [1u8; 6];
@@ -44,6 +45,7 @@ pub fn look_guest<'a>(
         types,
         formals,
         returned,
+        callees,
         handed,
         3,
         1,
@@ -59,6 +61,7 @@ pub fn look_guest<'a>(
         formals,
         returned,
         chains,
+        callees,
         handed,
         3,
         1,

@@ -11,7 +11,7 @@ ghost use Rattle.rules.specs.Gap.{Finds};
 ghost use Rattle.program.specs.Program.{returnsOf};
 ghost use Rattle.statements.specs.Desk.{desk};
 ghost use Rattle.checker.specs.Seen.{seen};
-ghost use Rattle.checker.specs.Kept.{Joined, Common, Exact, Names, Unions, Meets, Chains, Methods, Hurled, Gaps, Handed};
+ghost use Rattle.checker.specs.Kept.{Joined, Common, Exact, Names, Unions, Meets, Chains, Callees, Methods, Hurled, Gaps, Handed};
 use crate::gather::gather;
 use crate::gather::properties;
 use crate::row::look_include;
@@ -97,7 +97,7 @@ fn function_word(kind: u8, l: usize) -> u64
 }
 
 // Those of the labels w that are functions.
-pub fn functions_of(types: &[u8; 64], w: u64) -> u64
+fn functions_of(types: &[u8; 64], w: u64) -> u64
     ensures { λ r. ⌜ Exact (λ f. (bit w f ≡ 1) × (getD (now (types .entry)) f 0 ≡ 2)) r ⌝ }
 {
     let mut fs: u64 = 0;
@@ -107,6 +107,19 @@ pub fn functions_of(types: &[u8; 64], w: u64) -> u64
         f = words::next(w, f + 1);
     }
     fs
+}
+
+// The functions of each variable.
+pub fn keep_callees(t: &[u64], d: u64, types: &[u8; 64], callees: &mut [u64; 256])
+    requires { ⌜ (2432 ≤ length (now t)) × (length (now callees) ≡ 256) ⌝ }
+    ensures { λ _. ⌜ (Callees (seen d (now (t .entry))) (now (types .entry)) (now (callees .exit))) ⌝ }
+    ensures { λ _. ⌜ length (now (callees .exit)) ≡ 256 ⌝ }
+{
+    let mut v: usize = 0;
+    while v < 256 {
+        callees[v] = functions_of(types, row_at(t, d, v));
+        v += 1;
+    }
 }
 
 // The functions that a prim finds from each variable.

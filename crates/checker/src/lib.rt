@@ -21,6 +21,7 @@ mod row;
 mod rule;
 mod view;
 
+use crate::keep::keep_callees;
 use crate::keep::keep_chains;
 use crate::keep::keep_gaps;
 use crate::keep::keep_handed;
@@ -56,6 +57,8 @@ pub fn lowest_gap(file: &[u8], sheet: Sheet, table: &[u64]) -> usize
     keep_gaps(table, d, &sheet.formals, &methods, &mut gaps);
     let mut handed = [0u64; 64];
     keep_handed(table, d, &sheet.returned, &mut handed);
+    let mut callees = [0u64; 256];
+    keep_callees(table, d, &sheet.types, &mut callees);
     look_all(
         file,
         table,
@@ -69,6 +72,7 @@ pub fn lowest_gap(file: &[u8], sheet: Sheet, table: &[u64]) -> usize
         &unions,
         &meets,
         &chains,
+        &callees,
         &hurled,
         &gaps,
         &handed,

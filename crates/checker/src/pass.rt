@@ -40,12 +40,13 @@ pub fn look_records<'a>(
     unions: &[u64; 512],
     meets: &[u64; 512],
     chains: &[u64; 256],
+    callees: &[u64; 256],
     hurled: &[u64; 256],
     gaps: &[usize; 256],
     handed: &[u64; 64],
     low: usize,
 ) -> usize
-    requires { ⌜ (2432 ≤ length (now t)) × Readable 64 (now file) × (length (now formals) ≡ 448) × Kept (seen d (now t)) (now types) (now formals) (now masks) (now returned) (now words) (now unions) (now meets) (now chains) (now hurled) (now gaps) (now handed) ⌝ }
+    requires { ⌜ (2432 ≤ length (now t)) × Readable 64 (now file) × (length (now formals) ≡ 448) × Kept (seen d (now t)) (now types) (now formals) (now masks) (now returned) (now words) (now unions) (now meets) (now chains) (now callees) (now hurled) (now gaps) (now handed) ⌝ }
     ensures { λ r. ⌜ Finds 64 (seen d (now (t .entry))) (hostRules (desk (now (types .entry)) (now (flags .entry)) (now (formals .entry)) (now (masks .entry)) (now (returned .entry))) (now (file .entry))) low r ⌝ }
 {
     let mut best = low;
@@ -65,6 +66,7 @@ pub fn look_records<'a>(
             unions,
             meets,
             chains,
+            callees,
             hurled,
             gaps,
             handed,
@@ -91,11 +93,12 @@ pub fn look_all<'a>(
     unions: &[u64; 512],
     meets: &[u64; 512],
     chains: &[u64; 256],
+    callees: &[u64; 256],
     hurled: &[u64; 256],
     gaps: &[usize; 256],
     handed: &[u64; 64],
 ) -> usize
-    requires { ⌜ (2432 ≤ length (now t)) × Readable 64 (now file) × (length (now formals) ≡ 448) × Kept (seen d (now t)) (now types) (now formals) (now masks) (now returned) (now words) (now unions) (now meets) (now chains) (now hurled) (now gaps) (now handed) ⌝ }
+    requires { ⌜ (2432 ≤ length (now t)) × Readable 64 (now file) × (length (now formals) ≡ 448) × Kept (seen d (now t)) (now types) (now formals) (now masks) (now returned) (now words) (now unions) (now meets) (now chains) (now callees) (now hurled) (now gaps) (now handed) ⌝ }
     ensures { λ r. ⌜ Finds 64 (seen d (now (t .entry))) (passRules (desk (now (types .entry)) (now (flags .entry)) (now (formals .entry)) (now (masks .entry)) (now (returned .entry))) (now (file .entry))) 2432 r ⌝ }
 {
     let one = look_chains(t, d, types, 2432);
@@ -112,6 +115,7 @@ pub fn look_all<'a>(
         unions,
         meets,
         chains,
+        callees,
         handed,
         two,
     );
@@ -128,6 +132,7 @@ pub fn look_all<'a>(
         unions,
         meets,
         chains,
+        callees,
         hurled,
         gaps,
         handed,

@@ -7,7 +7,7 @@ ghost use Rattle.rules.specs.Gap.{Finds};
 ghost use Rattle.statements.specs.Desk.{desk, recordRule};
 ghost use Rattle.statements.specs.Range.{InRange};
 ghost use Rattle.checker.specs.Seen.{seen};
-ghost use Rattle.checker.specs.Kept.{Names, Unions, Meets, Chains, Hurled, Gaps, Handed, Kept};
+ghost use Rattle.checker.specs.Kept.{Names, Unions, Meets, Chains, Callees, Hurled, Gaps, Handed, Kept};
 use crate::function::call;
 use crate::function::convert;
 use crate::function::make_new;
@@ -138,11 +138,12 @@ fn call_record<'a>(
     types: &'a [u8; 64],
     formals: &'a [u8; 448],
     returned: &'a [u64; 256],
+    callees: &[u64; 256],
     handed: &[u64; 64],
     body: &[u8],
     low: usize,
 ) -> usize
-    requires { ⌜ (2432 ≤ length (now t)) × InRange 21 (now body) × (length (now formals) ≡ 448) × (Handed (seen d (now t)) (now returned) (now handed)) ⌝ }
+    requires { ⌜ (2432 ≤ length (now t)) × InRange 21 (now body) × (length (now formals) ≡ 448) × (Handed (seen d (now t)) (now returned) (now handed)) × (Callees (seen d (now t)) (now types) (now callees)) ⌝ }
     ensures { λ r. ⌜ Finds 64 (seen d (now (t .entry))) (recordRule (desk (now (types .entry)) [] (now (formals .entry)) [] (now (returned .entry))) 21 (now (body .entry))) low r ⌝ }
 {
     let k = wide(body[0]);
@@ -155,6 +156,7 @@ fn call_record<'a>(
         types,
         formals,
         returned,
+        callees,
         handed,
         k,
         y,
@@ -173,11 +175,12 @@ fn new_record<'a>(
     formals: &'a [u8; 448],
     returned: &'a [u64; 256],
     chains: &[u64; 256],
+    callees: &[u64; 256],
     handed: &[u64; 64],
     body: &[u8],
     low: usize,
 ) -> usize
-    requires { ⌜ (2432 ≤ length (now t)) × InRange 22 (now body) × (length (now formals) ≡ 448) × (Chains (seen d (now t)) (now chains)) × (Handed (seen d (now t)) (now returned) (now handed)) ⌝ }
+    requires { ⌜ (2432 ≤ length (now t)) × InRange 22 (now body) × (length (now formals) ≡ 448) × (Chains (seen d (now t)) (now chains)) × (Handed (seen d (now t)) (now returned) (now handed)) × (Callees (seen d (now t)) (now types) (now callees)) ⌝ }
     ensures { λ r. ⌜ Finds 64 (seen d (now (t .entry))) (recordRule (desk (now (types .entry)) [] (now (formals .entry)) [] (now (returned .entry))) 22 (now (body .entry))) low r ⌝ }
 {
     let k = wide(body[0]);
@@ -192,6 +195,7 @@ fn new_record<'a>(
         formals,
         returned,
         chains,
+        callees,
         handed,
         k,
         y,
@@ -255,6 +259,7 @@ pub fn look_record<'a>(
     unions: &[u64; 512],
     meets: &[u64; 512],
     chains: &[u64; 256],
+    callees: &[u64; 256],
     hurled: &[u64; 256],
     gaps: &[usize; 256],
     handed: &[u64; 64],
@@ -262,7 +267,7 @@ pub fn look_record<'a>(
     body: &[u8],
     low: usize,
 ) -> usize
-    requires { ⌜ (2432 ≤ length (now t)) × InRange kind (now body) × (length (now formals) ≡ 448) × Kept (seen d (now t)) (now types) (now formals) (now masks) (now returned) (now words) (now unions) (now meets) (now chains) (now hurled) (now gaps) (now handed) ⌝ }
+    requires { ⌜ (2432 ≤ length (now t)) × InRange kind (now body) × (length (now formals) ≡ 448) × Kept (seen d (now t)) (now types) (now formals) (now masks) (now returned) (now words) (now unions) (now meets) (now chains) (now callees) (now hurled) (now gaps) (now handed) ⌝ }
     ensures { λ r. ⌜ Finds 64 (seen d (now (t .entry))) (recordRule (desk (now (types .entry)) (now (flags .entry)) (now (formals .entry)) (now (masks .entry)) (now (returned .entry))) kind (now (body .entry))) low r ⌝ }
 {
     match kind {
@@ -275,8 +280,19 @@ pub fn look_record<'a>(
         18 => store_record(t, d, flags, masks, words, meets, body, low),
         19 => make_record(t, d, body, low),
         20 => function_record(t, d, body, low),
-        21 => call_record(t, d, types, formals, returned, handed, body, low),
-        22 => new_record(t, d, types, formals, returned, chains, handed, body, low),
+        21 => call_record(t, d, types, formals, returned, callees, handed, body, low),
+        22 => new_record(
+            t,
+            d,
+            types,
+            formals,
+            returned,
+            chains,
+            callees,
+            handed,
+            body,
+            low,
+        ),
         24 => throw_record(t, d, body, low),
         25 => catch_record(t, d, body, low),
         26 => prim_record(t, d, types, formals, hurled, gaps, body, low),

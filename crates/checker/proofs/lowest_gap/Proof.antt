@@ -33,9 +33,12 @@ keep-gaps-requires c κs = (c .before .before .before .before .before .before .b
 keep-handed-requires : tie.Need-keep-handed-requires
 keep-handed-requires c κs = (c .before .before .before .before .before .before .before .before .before .before .before .before .before .before .before .before .before .before .before .before .before .before .before .before .before .before .before .before .before .before .before .before .before .pre .0, search needs)
 
+keep-callees-requires : tie.Need-keep-callees-requires
+keep-callees-requires c κs = (c .before .before .before .before .before .before .before .before .before .before .before .before .before .before .before .before .before .before .before .before .before .before .before .before .before .before .before .before .before .before .before .before .before .before .before .before .before .pre .0, search needs)
+
 look-all-requires : tie.Need-look-all-requires
 look-all-requires c κs =
-    let handed = c .before .before .before .before .before .before .before .before .before .before .before .before .before in
+    let handed = c .before .before .before .before .before .before .before .before .before .before .before .before .before .before .before .before .before .before in
     let gaps = handed .before .before .before .before in
     let hurled = gaps .before .before .before .before .before in
     let methods = hurled .before .before .before in
@@ -52,6 +55,7 @@ look-all-requires c κs =
         joined = chains .before .before .before .before .before .keep-unions .ensures .0 (sheetOf (a .t2) .masks) names;
         common = chains .before .before .keep-meets .ensures .0;
         gathered = chains .keep-chains .ensures .0;
+        called = c .before .before .before .before .before .before .before .before .before .before .before .before .before .before .keep-callees .ensures .0;
         throws = hurled .keep-hurled .ensures .0 (sheetOf (a .t2) .types) found;
         holes = gaps .keep-gaps .ensures .0 (sheetOf (a .t2) .types) found;
         back = handed .keep-handed .ensures .0;
@@ -60,7 +64,7 @@ look-all-requires c κs =
 
 returns : tie.Need-returns
 returns c =
-    let chains = c .before .before .before .before .before .before .before .before .before .before .before .before .before .before .before .before .before .before .before .before .before .before .before .before .before .before .before .before .before .before .before in
+    let chains = c .before .before .before .before .before .before .before .before .before .before .before .before .before .before .before .before .before .before .before .before .before .before .before .before .before .before .before .before .before .before .before .before .before .before .before .before in
     let s = chains .before .before .before .before .before .before .before .before .before .before .before .before .before .before .before .before .before in
     let a = s .args in
     let d = chains .before .before .before .before .before .before .before .before .before .before .before .before .declared-word in
@@ -79,5 +83,6 @@ lowest-gap-spec =
     keep-hurled-requires
     keep-gaps-requires
     keep-handed-requires
+    keep-callees-requires
     look-all-requires
     returns)

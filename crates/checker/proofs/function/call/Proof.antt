@@ -4,6 +4,7 @@ use mathlib.Core.Path.{_≡_, ap, _∙_}
 use mathlib.Core.List.{[]}
 use Prim.Native.Nat.{ℕ, _+_, _-_, _≤_, _<_}
 use native.Mathlib.Omega.{arith}
+use lib.ListN.{getD}
 use Rattle.words.proofs.Bits.{On}
 use Rattle.rows.specs.Row.{variable}
 use Rattle.rules.specs.Rule.{include, over, _also_}
@@ -21,19 +22,19 @@ use Rattle.checker.proofs.function.call.Statement.{statement}
 use Rattle.checker.proofs.function.call.Tie as tie
 
 abbrev Inv-loop : tie.InvT-loop
-Inv-loop t d types formals returned handed k y callee this args low fs best₀ f₀ best f =
+Inv-loop t d types formals returned callees handed k y callee this args low fs best₀ f₀ best f =
     (f ≤ 64) × (f < 64 → On fs f)
     × Finds 64 (seen d t) (over (labels f fs) (λ g. include (variable (thisOf (desk [] [] formals [] [] .sheet) g)) (variable this)
     also passing (desk [] [] formals [] []) (formalsOf (desk [] [] formals [] [] .sheet) g) args)) low best
 
 abbrev μ-loop : tie.MeasureT-loop
-μ-loop t d types formals returned handed k y callee this args low fs best₀ f₀ best f = 64 - f
+μ-loop t d types formals returned callees handed k y callee this args low fs best₀ f₀ best f = 64 - f
 
-row-at-requires : tie.Need-row-at-requires Inv-loop μ-loop
-row-at-requires c κs = search needs
+mul-fs : tie.Need-mul-fs Inv-loop μ-loop
+mul-fs c = search needs
 
-functions-of-requires : tie.Need-functions-of-requires Inv-loop μ-loop
-functions-of-requires c κs = search needs
+element-copy-out-fs : tie.Need-element-copy-out-fs Inv-loop μ-loop
+element-copy-out-fs c = search needs
 
 next-requires : tie.Need-next-requires Inv-loop μ-loop
 next-requires c κs = search needs
@@ -77,17 +78,17 @@ look-word-requires-2 c κs = search needs
 returns : tie.Need-returns Inv-loop μ-loop
 unfolding returnsOf statements guestsStatements
 returns c =
-    let b = c .before .before .before .before .before .before .before .before .before .before .before .before in
+    let b = c .before .before .before .before .before .before .before .before .before .before .before in
     let a = b .args in
     let t = seen (a .d) (a .t .now) in
-    let fs = c .before .before .before .before .before .before .before .before .functions-of in
+    let fs = getD (a .callees .now) (a .callee) 0 in
     let out = c .before .before .gather in
     let back = c .before .before .before .pick in
     let r = c .before .before .before .before .before .before .loop in
     let e : r .f ≡ 64 = omega (arith, c .before .before .before .before .before .loop-test .left, r .inv .0) in
     finds-equal (c .look-word2 .ensures ∙ ap (λ (z : ℕ). lower (grows (2368 + a .k) (out .result) t) (2368 + a .k) z) (c .before .look-word .ensures))
-    (call-finds (desk (a .types .now) [] (a .formals .now) [] (a .returned .now)) t (a .k) (a .y) (a .callee) (a .this) (a .args .now) (fs .result) (back .result)
-    (out .result) (seen-small (a .d) (a .t .now) (b .fits .d .fits)) (search needs) (rw (c .before .before .before .before .before .before .before .before .before .row-at .ensures) at (fs .ensures)) (a .handed .now) (a .low) (r .best)
+    (call-finds (desk (a .types .now) [] (a .formals .now) [] (a .returned .now)) t (a .k) (a .y) (a .callee) (a .this) (a .args .now) fs (back .result)
+    (out .result) (seen-small (a .d) (a .t .now) (b .fits .d .fits)) (b .pre .8 (a .callee) (b .pre .3)) (a .handed .now) (a .low) (r .best)
     (search needs) (search needs) (b .pre .7) (back .ensures) (out .ensures) (rw e at (r .inv .2)))
 
 pub call-spec : {M : Type 1} → statement M
@@ -96,8 +97,8 @@ call-spec =
     (tie.spec
     Inv-loop
     μ-loop
-    row-at-requires
-    functions-of-requires
+    mul-fs
+    element-copy-out-fs
     next-requires
     loop-holds
     enter-requires

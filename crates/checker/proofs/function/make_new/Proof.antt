@@ -14,7 +14,7 @@ prototypes-requires : tie.Need-prototypes-requires
 prototypes-requires c κs = search needs
 
 call-requires : tie.Need-call-requires
-call-requires c κs = let p = c .before .before .before .before .before .pre in (p .0, p .1, p .2, p .3, p .4, p .6, p .7, p .9)
+call-requires c κs = let p = c .before .before .before .before .before .pre in (p .0, p .1, p .2, p .3, p .4, p .6, p .7, p .9, p .10)
 
 returns : tie.Need-returns
 returns c = finds-both (c .before .before .before .look-give .ensures) (finds-both (c .before .before .look-include .ensures) (finds-both (c .before .prototypes .ensures) (c .call .ensures)))

@@ -24,13 +24,13 @@ slice-aggregate-call : tie.Need-slice-aggregate-call
 slice-aggregate-call c = search needs
 
 call-requires : tie.Need-call-requires
-call-requires c κs = let p = c .before .before .before .before .before .before .pre in (p .0, search needs, search needs, search needs, search needs, search needs, p .1, p .6)
+call-requires c κs = let p = c .before .before .before .before .before .before .pre in (p .0, search needs, search needs, search needs, search needs, search needs, p .1, p .6, p .7)
 
 slice-aggregate-make-new : tie.Need-slice-aggregate-make-new
 slice-aggregate-make-new c = search needs
 
 make-new-requires : tie.Need-make-new-requires
-make-new-requires c κs = let p = c .before .before .before .before .before .before .before .before .pre in (p .0, search needs, search needs, search needs, search needs, search needs, search needs, p .1, p .5, p .6)
+make-new-requires c κs = let p = c .before .before .before .before .before .before .before .before .pre in (p .0, search needs, search needs, search needs, search needs, search needs, search needs, p .1, p .5, p .6, p .7)
 
 look-include-requires : tie.Need-look-include-requires
 look-include-requires c κs = search needs

@@ -12,7 +12,7 @@ look-guest-chain-requires : tie.Need-look-guest-chain-requires
 look-guest-chain-requires c κs = search needs
 
 look-guest-requires : tie.Need-look-guest-requires
-look-guest-requires c κs = let p = c .before .before .before .before .pre in (p .0, p .2, p .3 .names, p .3 .joined, p .3 .common, p .3 .gathered, p .3 .back)
+look-guest-requires c κs = let p = c .before .before .before .before .pre in (p .0, p .2, p .3 .names, p .3 .joined, p .3 .common, p .3 .gathered, p .3 .back, p .3 .called)
 
 look-records-requires : tie.Need-look-records-requires
 look-records-requires c κs = search needs

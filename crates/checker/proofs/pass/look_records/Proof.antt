@@ -10,10 +10,10 @@ use Rattle.checker.proofs.pass.look_records.Statement.{statement}
 use Rattle.checker.proofs.pass.look_records.Tie as tie
 
 abbrev Inv-loop : tie.InvT-loop
-Inv-loop file t d types flags formals masks returned words unions meets chains hurled gaps handed low best₀ at₀ best at = Walk (desk types flags formals masks returned) (seen d t) file at low best
+Inv-loop file t d types flags formals masks returned words unions meets chains callees hurled gaps handed low best₀ at₀ best at = Walk (desk types flags formals masks returned) (seen d t) file at low best
 
 abbrev μ-loop : tie.MeasureT-loop
-μ-loop file t d types flags formals masks returned words unions meets chains hurled gaps handed low best₀ at₀ best at = length file - at
+μ-loop file t d types flags formals masks returned words unions meets chains callees hurled gaps handed low best₀ at₀ best at = length file - at
 
 loop-holds : tie.Need-loop-holds Inv-loop μ-loop
 loop-holds c = walk-first _ _ (c .before .before .pre .1)

@@ -44,7 +44,7 @@ part-call-end : tie.Need-part-call-end
 part-call-end c = search needs
 
 call-requires : tie.Need-call-requires
-call-requires c κs = let p = c .before .before .before .before .before .before .before .before .before .before .before .pre in (p .0, search needs, search needs, search needs, search needs, search needs, p .2, p .3)
+call-requires c κs = let p = c .before .before .before .before .before .before .before .before .before .before .before .pre in (p .0, search needs, search needs, search needs, search needs, search needs, p .2, p .3, p .4)
 
 returns : tie.Need-returns
 unfolding statementsOf

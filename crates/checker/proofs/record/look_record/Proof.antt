@@ -35,10 +35,10 @@ function-record-requires : tie.Need-function-record-requires
 function-record-requires c κs = let pre = c .before .before .before .pre in (pre .0, rw (c .match .keys9) at (pre .1))
 
 call-record-requires : tie.Need-call-record-requires
-call-record-requires c κs = let pre = c .before .before .before .pre in (pre .0, rw (c .match .keys10) at (pre .1), pre .2, pre .3 .back)
+call-record-requires c κs = let pre = c .before .before .before .pre in (pre .0, rw (c .match .keys10) at (pre .1), pre .2, pre .3 .back, pre .3 .called)
 
 new-record-requires : tie.Need-new-record-requires
-new-record-requires c κs = let pre = c .before .before .before .pre in (pre .0, rw (c .match .keys11) at (pre .1), pre .2, pre .3 .gathered, pre .3 .back)
+new-record-requires c κs = let pre = c .before .before .before .pre in (pre .0, rw (c .match .keys11) at (pre .1), pre .2, pre .3 .gathered, pre .3 .back, pre .3 .called)
 
 throw-record-requires : tie.Need-throw-record-requires
 throw-record-requires c κs = let pre = c .before .before .before .pre in (pre .0, rw (c .match .keys12) at (pre .1))

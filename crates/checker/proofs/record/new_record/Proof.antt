@@ -50,7 +50,7 @@ part-make-new-end : tie.Need-part-make-new-end
 part-make-new-end c = search needs
 
 make-new-requires : tie.Need-make-new-requires
-make-new-requires c κs = let p = c .before .before .before .before .before .before .before .before .before .before .before .before .before .pre in (p .0, search needs, search needs, search needs, search needs, search needs, search needs, p .2, p .3, p .4)
+make-new-requires c κs = let p = c .before .before .before .before .before .before .before .before .before .before .before .before .before .pre in (p .0, search needs, search needs, search needs, search needs, search needs, search needs, p .2, p .3, p .4, p .5)
 
 returns : tie.Need-returns
 unfolding statementsOf
