@@ -3,3 +3,4 @@ pub mod Notes
 pub mod Looks
 pub mod Keeps
 pub mod Fulls
+pub mod Unites

@@ -41,6 +41,14 @@ Back words f x = (x < 256) × (bit (getD words (4 * f + x / 64) 0) (x % 64) ≡ 
 abbrev pub HandedBack : List ℕ → Table → ℕ → ℕ → Type 0
 HandedBack returned t f l = (x : ℕ) × Back returned f x × Has t x l
 
+-- x is in a property of label m under a name of the word
+abbrev pub Under : Table → ℕ → ℕ → ℕ → Type 0
+Under t names m x = (n : ℕ) × (bit names n ≡ 1) × Has t (256 + 32 * m + n) x
+
+-- the same for four classes from class `first` on, 64 labels a class
+abbrev pub Joined : ℕ → List ℕ → Table → ℕ → ℕ → Type 0
+Joined first classes t v = Under t (getD classes (first + v / 64) 0) (v % 64)
+
 -- ---- the words kept
 
 -- the word holds exactly the labels of the set

@@ -1,10 +1,11 @@
 // The words kept for each variable and each function, brought up to date with the table at the start of a pass.
 ghost use mathlib.Core.Path.{_≡_};
+ghost use mathlib.Core.List.{List};
 ghost use Prim.Native.Nat.{ℕ, _<_, _≤_};
 ghost use lib.ListN.{length, getD};
 ghost use Rattle.words.specs.Words.{bit};
 ghost use Rattle.rules.specs.Table.{Table, Within};
-ghost use Rattle.lookups.specs.Kept.{Same, Stirred, OnChains, Method, HandedBack, Exact, Delta, Deltas, Exacts, Returned};
+ghost use Rattle.lookups.specs.Kept.{Same, Stirred, OnChains, Method, HandedBack, Under, Joined, Exact, Delta, Deltas, Exacts, Returned};
 use crate::look::look;
 use crate::note::noted;
 use tables::gather::gather;
@@ -73,6 +74,38 @@ pub fn renew_methods<'a>(
         let after = method_word(t, last, chains[v], fresh[v], stirred, before);
         added[v] = words::without(after, before);
         methods[v] = after;
+        v += 1;
+    }
+}
+
+// The union of the properties of label m under the names: that of before, where none of them grew.
+fn union_word(t: &[u64], names: u64, stirred: u64, before: u64, m: usize) -> u64
+    requires { ⌜ (2432 ≤ length (now t)) × (m < 64) ⌝ }
+    ensures { λ r. ⌜ ((last : List ℕ) (old : Table) → Same last old (now (t .entry)) → Stirred last stirred → ((n : ℕ) → bit names n ≡ 1 → n < 32) → Exact (Under old names m) before → Exact (Under (now (t .entry)) names m) r) ⌝ }
+{
+    if words::has(stirred, m) == 0 {
+        return before;
+    }
+    gather(t, names, 256 + 32 * m)
+}
+
+// The same for every label and for the names of four classes, from class `first` on.
+pub fn renew_unions(
+    t: &[u64],
+    classes: &[u64; 8],
+    stirred: u64,
+    first: usize,
+    unions: &mut [u64; 256],
+)
+    requires { ⌜ (2432 ≤ length (now t)) × (first ≤ 4) × (length (now unions) ≡ 256) ⌝ }
+    ensures { λ _. ⌜ ((last : List ℕ) (old : Table) → Same last old (now (t .entry)) → Stirred last stirred → ((c n : ℕ) → c < 8 → bit (getD (now (classes .entry)) c 0) n ≡ 1 → n < 32) → Exacts 256 (Joined first (now (classes .entry)) old) (now (unions .entry)) → Exacts 256 (Joined first (now (classes .entry)) (now (t .entry))) (now (unions .exit))) ⌝ }
+    ensures { λ _. ⌜ length (now (unions .exit)) ≡ 256 ⌝ }
+{
+    let mut v: usize = 0;
+    while v < 256 {
+        let names = classes[first + v / 64];
+        let before = unions[v];
+        unions[v] = union_word(t, names, stirred, before, v % 64);
         v += 1;
     }
 }

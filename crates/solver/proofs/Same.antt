@@ -14,6 +14,7 @@ use Rattle.rules.specs.Rule.{Rule, every, chosen}
 use Rattle.rules.specs.Told.{Closed}
 use Rattle.rules.specs.Round.{leastAbove}
 use Rattle.rules.proofs.Table.{empty-shaped}
+use Rattle.rules.proofs.Labels.{chosen-passes}
 use Rattle.rules.proofs.Beyond.{least-append}
 use Rattle.rules.proofs.Loop.{closed-append, append-closed}
 use Rattle.format.specs.Sheet.{Sheet, typeOf}
@@ -29,7 +30,7 @@ use Rattle.analysis.proofs.Proper.{readable-proper}
 use Rattle.analysis.proofs.Returned.{readable-returned, returns-below}
 use Rattle.tables.specs.Sets.{Listed}
 use Rattle.statements.specs.Desk.{desk, deskOf, passRules, theGuest}
-use Rattle.statements.specs.View.{Laid}
+use Rattle.statements.specs.View.{Named, Laid}
 
 -- ---- the rules in the order of a pass
 
@@ -116,6 +117,10 @@ module _ (file types flags formals masks returned : List ℕ) (ok : Readable 64 
             (b, subst (λ (ws : List ℕ). On (getD ws (4 * f + x / 64) 0) (x % 64)) returned-are (readable-returned 64 file (omega arith) ok f x h b .0 i));
         handed = λ f x h b. readable-returned 64 file (omega arith) ok f x h (b .0) .1 (subst (λ (ws : List ℕ). On (getD ws (4 * f + x / 64) 0) (x % 64)) (sym returned-are) (b .1));
       }
+
+-- the names of the classes are names
+pub classes-below : (p : Program) (classes : List ℕ) → Named p classes → (c n : ℕ) → c < 8 → On (getD classes c 0) n → n < 32
+classes-below p classes named c n h o = chosen-passes (inClass (p .sheet) c) 32 n (named c h .source n o) .0
 
 -- words beyond the rows
 drop-small : (n : ℕ) (t : Table) → Small 64 t → Small 64 (drop n t)

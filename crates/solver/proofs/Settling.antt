@@ -3,7 +3,7 @@
 use mathlib.Core.Path.{_≡_, refl, sym, ap, _∙_, subst}
 use mathlib.Core.List.{List, []}
 use mathlib.Core.Bool.{Bool, true, false}
-use Prim.Native.Nat.{ℕ, zero, suc, _+_, _<_}
+use Prim.Native.Nat.{ℕ, zero, suc, _+_, _*_, _%_, _<_}
 use native.Mathlib.Omega.{arith}
 use lib.ListN.{getD, replicate, getD-replicate}
 use Rattle.words.specs.Words.{bit, countBelow}
@@ -16,10 +16,10 @@ use Rattle.rules.specs.Round.{leastAbove}
 use Rattle.rules.specs.Sweep.{Reaches, Draws, Resumes}
 use Rattle.rules.proofs.Sweep.{reaches-itself, reaches-on, reaches-for, reaches-least, heeds-draws, draws-nothing}
 use Rattle.rules.proofs.Resumes.{resumes-closed}
-use Rattle.lookups.specs.Kept.{Same, OnChains, Method, HandedBack, Exact, Exacts, Deltas, Returned, Full, Sizes}
+use Rattle.lookups.specs.Kept.{Same, OnChains, Method, HandedBack, Joined, Exact, Exacts, Deltas, Returned, Full, Sizes}
 use Rattle.lookups.proofs.Fulls.{full-none}
 
-pub record Settling (rule : Rule) (returned : List ℕ) (first t : Table) (again : Bool) (low high last chains methods handed full : List ℕ) : Type 0 where
+pub record Settling (rule : Rule) (returned classes : List ℕ) (first t : Table) (again : Bool) (low high last chains methods lower upper handed full : List ℕ) : Type 0 where
   pub old : Table
   pub reaches : Reaches 64 rule first t
   pub within : Within old t
@@ -29,6 +29,8 @@ pub record Settling (rule : Rule) (returned : List ℕ) (first t : Table) (again
   pub sizes : Sizes t low high
   pub chained : Exacts 256 (OnChains old) chains
   pub found : Exacts 256 (Method old) methods
+  pub low-unions : Exacts 256 (Joined 0 classes old) lower
+  pub high-unions : Exacts 256 (Joined 4 classes old) upper
   pub back : Exacts 64 (HandedBack returned old) handed
   pub held : Full t full
 
@@ -51,9 +53,13 @@ count-none (suc k) = let e = count-none k in omega (arith, e, bit-zero k)
 size-none : (n r row : ℕ) → r < n → row ≡ 0 → getD (replicate n 0) r 0 ≡ countBelow row 64
 size-none n r row h e = getD-replicate n r 0 0 h ∙ sym (ap (λ (w : ℕ). countBelow w 64) e ∙ count-none 64)
 
-pub settling-first : (rule : Rule) (returned : List ℕ) (t : Table) → ((r : ℕ) → r < 2432 → getD t r 0 ≡ 0)
-    → Settling rule returned t t true (replicate 2048 0) (replicate 384 0) (replicate 38 0) (replicate 256 0) (replicate 256 0) (replicate 64 0) (replicate 64 0)
-settling-first rule returned t zeros =
+unions-none : (first : ℕ) (classes : List ℕ) → Exacts 256 (Joined first classes []) (replicate 256 0)
+unions-none first classes v h = exact-none 256 v (Joined first classes [] v) h (λ x g. nothing (256 + 32 * (v % 64) + g .0) x (g .2))
+
+pub settling-first : (rule : Rule) (returned classes : List ℕ) (t : Table) → ((r : ℕ) → r < 2432 → getD t r 0 ≡ 0)
+    → Settling rule returned classes t t true (replicate 2048 0) (replicate 384 0) (replicate 38 0) (replicate 256 0) (replicate 256 0) (replicate 256 0)
+    (replicate 256 0) (replicate 64 0) (replicate 64 0)
+settling-first rule returned classes t zeros =
     record {
       old = [];
       reaches = reaches-itself;
@@ -67,17 +73,21 @@ settling-first rule returned t zeros =
       };
       chained = λ v h. exact-none 256 v (OnChains [] v) h (λ m g. nothing v (g .0) (g .1));
       found = λ v h. exact-none 256 v (Method [] v) h (λ f g. nothing v (g .1 .0) (g .1 .1));
+      low-unions = unions-none 0 classes;
+      high-unions = unions-none 4 classes;
       back = λ f h. exact-none 64 f (HandedBack returned [] f) h (λ l g. nothing (g .0) l (g .2));
       held = full-none t;
     }
 
 -- one turn more
-pub settling-next : {rule : Rule} {returned : List ℕ} {first t u : Table} {again grew : Bool} {low high last chains methods handed full : List ℕ}
-    (low′ high′ last′ chains′ methods′ handed′ full′ fresh added : List ℕ) (stale : ℕ) (s : Settling rule returned first t again low high last chains methods handed full)
-    → Deltas 256 OnChains (s .old) t chains′ fresh → Deltas 256 Method (s .old) t methods′ added → Returned returned (s .old) t handed′ stale
+pub settling-next : {rule : Rule} {returned classes : List ℕ} {first t u : Table} {again grew : Bool} {low high last chains methods lower upper handed full : List ℕ}
+    (low′ high′ last′ chains′ methods′ lower′ upper′ handed′ full′ fresh added : List ℕ) (stale : ℕ)
+    (s : Settling rule returned classes first t again low high last chains methods lower upper handed full)
+    → Deltas 256 OnChains (s .old) t chains′ fresh → Deltas 256 Method (s .old) t methods′ added
+    → Exacts 256 (Joined 0 classes t) lower′ → Exacts 256 (Joined 4 classes t) upper′ → Returned returned (s .old) t handed′ stale
     → Resumes 64 rule (s .old) t t u grew → Full u full′ → Sizes u low′ high′ → Same last′ t u
-    → Settling rule returned first u grew low′ high′ last′ chains′ methods′ handed′ full′
-settling-next {rule} {returned} {first} {t} {u} low′ high′ last′ chains′ methods′ handed′ full′ fresh added stale s c m h r f z e =
+    → Settling rule returned classes first u grew low′ high′ last′ chains′ methods′ lower′ upper′ handed′ full′
+settling-next {rule} {returned} {classes} {first} {t} {u} low′ high′ last′ chains′ methods′ lower′ upper′ handed′ full′ fresh added stale s c m a b h r f z e =
     record {
       old = t;
       reaches = reaches-on (s .reaches) (r .reaches);
@@ -88,14 +98,16 @@ settling-next {rule} {returned} {first} {t} {u} low′ high′ last′ chains′
       sizes = z;
       chained = λ v i. c v i .exact;
       found = λ v i. m v i .exact;
+      low-unions = a;
+      high-unions = b;
       back = λ k i. h .exact k i;
       held = f;
     }
 
 -- the end, for a rule with the same closed tables
-pub settling-least : {rule : Rule} {returned : List ℕ} {first t : Table} {again : Bool} {low high last chains methods handed full : List ℕ} (whole : Rule)
-    → Settling rule returned first t again low high last chains methods handed full → Fits 64 whole → Shaped 64 first
+pub settling-least : {rule : Rule} {returned classes : List ℕ} {first t : Table} {again : Bool} {low high last chains methods lower upper handed full : List ℕ}
+    (whole : Rule) → Settling rule returned classes first t again low high last chains methods lower upper handed full → Fits 64 whole → Shaped 64 first
     → ((v : Table) → Closed 64 v whole → Closed 64 v rule) → ((v : Table) → Closed 64 v rule → Closed 64 v whole) → again ≡ false
     → t ≡ leastAbove 64 whole first
-settling-least {rule} {returned} {first} {t} whole s fits shaped to from e =
+settling-least {rule} {returned} {classes} {first} {t} whole s fits shaped to from e =
     reaches-least fits shaped (reaches-for (λ v w c. to v c) (s .reaches)) (from t (s .closed e))

@@ -16,6 +16,7 @@ ghost use Rattle.statements.specs.View.{Laid, View};
 use lookups::keep::renew_chains;
 use lookups::keep::renew_handed;
 use lookups::keep::renew_methods;
+use lookups::keep::renew_unions;
 use lookups::look::stirred_labels;
 use lookups::note::note;
 use statements::chain::chains;
@@ -39,12 +40,14 @@ fn host(
     fresh: &[u64; 256],
     methods: &[u64; 256],
     added: &[u64; 256],
+    lower: &[u64; 256],
+    upper: &[u64; 256],
     handed: &[u64; 64],
     stirred: u64,
     stale: u64,
 ) -> bool
-    requires { ⌜ (2432 ≤ length (now t)) × Readable 64 (now file) × (length (now formals) ≡ 448) × (length (now handed) ≡ 64) × Stirred (now last) stirred × Part 256 (now fresh) (now chains) × (length (now full) ≡ 64) ⌝ }
-    ensures { λ r. ⌜ ((p : Program) (returned : List ℕ) (old new : Table) → Laid p functions (now (flags .entry)) (now (formals .entry)) (now (classes .entry)) returned → View old new returned (now (last .entry)) (now (chains .entry)) (now (fresh .entry)) (now (methods .entry)) (now (added .entry)) (now (handed .entry)) stirred stale → Within new (now (t .entry)) → Full (now (t .entry)) (now (full .entry)) → Resumes 64 (hostRules p (now (file .entry))) old new (now (t .entry)) (now (t .exit)) r × Full (now (t .exit)) (now (full .exit))) ⌝ }
+    requires { ⌜ (2432 ≤ length (now t)) × Readable 64 (now file) × (length (now formals) ≡ 448) × (length (now handed) ≡ 64) × Stirred (now last) stirred × Part 256 (now fresh) (now chains) × (length (now full) ≡ 64) × (length (now lower) ≡ 256) × (length (now upper) ≡ 256) ⌝ }
+    ensures { λ r. ⌜ ((p : Program) (returned : List ℕ) (old new : Table) → Laid p functions (now (flags .entry)) (now (formals .entry)) (now (classes .entry)) returned → View old new returned (now (classes .entry)) (now (last .entry)) (now (chains .entry)) (now (fresh .entry)) (now (methods .entry)) (now (added .entry)) (now (lower .entry)) (now (upper .entry)) (now (handed .entry)) stirred stale → Within new (now (t .entry)) → Full (now (t .entry)) (now (full .entry)) → Resumes 64 (hostRules p (now (file .entry))) old new (now (t .entry)) (now (t .exit)) r × Full (now (t .exit)) (now (full .exit))) ⌝ }
     ensures { λ _. ⌜ length (now (full .exit)) ≡ 64 ⌝ }
 {
     let lengths = layout::lengths();
@@ -65,6 +68,8 @@ fn host(
             fresh,
             methods,
             added,
+            lower,
+            upper,
             handed,
             stirred,
             stale,
@@ -92,12 +97,14 @@ fn pass(
     fresh: &[u64; 256],
     methods: &[u64; 256],
     added: &[u64; 256],
+    lower: &[u64; 256],
+    upper: &[u64; 256],
     handed: &[u64; 64],
     stirred: u64,
     stale: u64,
 ) -> bool
-    requires { ⌜ (2432 ≤ length (now t)) × Readable 64 (now file) × (length (now formals) ≡ 448) × (length (now handed) ≡ 64) × Stirred (now last) stirred × Part 256 (now fresh) (now «chain_words») × (length (now full) ≡ 64) ⌝ }
-    ensures { λ r. ⌜ ((p : Program) (returned : List ℕ) (old new : Table) → p .sheet .types ≡ now (types .entry) → Laid p functions (now (flags .entry)) (now (formals .entry)) (now (classes .entry)) returned → View old new returned (now (last .entry)) (now («chain_words» .entry)) (now (fresh .entry)) (now (methods .entry)) (now (added .entry)) (now (handed .entry)) stirred stale → Within new (now (t .entry)) → Full (now (t .entry)) (now (full .entry)) → Resumes 64 (passRules p (now (file .entry))) old new (now (t .entry)) (now (t .exit)) r × Full (now (t .exit)) (now (full .exit))) ⌝ }
+    requires { ⌜ (2432 ≤ length (now t)) × Readable 64 (now file) × (length (now formals) ≡ 448) × (length (now handed) ≡ 64) × Stirred (now last) stirred × Part 256 (now fresh) (now «chain_words») × (length (now full) ≡ 64) × (length (now lower) ≡ 256) × (length (now upper) ≡ 256) ⌝ }
+    ensures { λ r. ⌜ ((p : Program) (returned : List ℕ) (old new : Table) → p .sheet .types ≡ now (types .entry) → Laid p functions (now (flags .entry)) (now (formals .entry)) (now (classes .entry)) returned → View old new returned (now (classes .entry)) (now (last .entry)) (now («chain_words» .entry)) (now (fresh .entry)) (now (methods .entry)) (now (added .entry)) (now (lower .entry)) (now (upper .entry)) (now (handed .entry)) stirred stale → Within new (now (t .entry)) → Full (now (t .entry)) (now (full .entry)) → Resumes 64 (passRules p (now (file .entry))) old new (now (t .entry)) (now (t .exit)) r × Full (now (t .exit)) (now (full .exit))) ⌝ }
     ensures { λ _. ⌜ length (now (full .exit)) ≡ 64 ⌝ }
 {
     let a = chains(t, last, types);
@@ -112,6 +119,7 @@ fn pass(
         last,
         chain_words,
         fresh,
+        lower,
         handed,
         stirred,
         stale,
@@ -129,6 +137,8 @@ fn pass(
         fresh,
         methods,
         added,
+        lower,
+        upper,
         handed,
         stirred,
         stale,
@@ -176,6 +186,8 @@ pub fn settle<'a>(
     let mut fresh = [0u64; 256];
     let mut methods = [0u64; 256];
     let mut added = [0u64; 256];
+    let mut lower = [0u64; 256];
+    let mut upper = [0u64; 256];
     let mut handed = [0u64; 64];
     let mut full = [0u64; 64];
     let mut again = true;
@@ -191,6 +203,8 @@ pub fn settle<'a>(
             &mut methods,
             &mut added,
         );
+        renew_unions(t, &classes, stirred, 0, &mut lower);
+        renew_unions(t, &classes, stirred, 4, &mut upper);
         let stale = renew_handed(t, returned, &last, &mut handed);
         again = pass(
             t,
@@ -206,6 +220,8 @@ pub fn settle<'a>(
             &fresh,
             &methods,
             &added,
+            &lower,
+            &upper,
             &handed,
             stirred,
             stale,

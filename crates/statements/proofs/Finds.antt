@@ -3,13 +3,14 @@ use mathlib.Core.Path.{_≡_, refl, sym, _∙_, subst}
 use mathlib.Core.Logic.{_⊎_, inl, inr}
 use mathlib.Core.List.{List, [], _∷_, List·Memᴰ, List·Memᴰ·eq-of-singleton}
 use mathlib.Core.Bool.{Bool, true, false, cond, not}
-use Prim.Native.Nat.{ℕ, _+_, _-_, _*_, _/_, _%_, _^_, _<_}
+use Prim.Native.Nat.{ℕ, _+_, _-_, _*_, _/_, _%_, _^_, _≤_, _<_}
 use native.Mathlib.Omega.{arith}
 use lib.ListN.{length, getD, set}
+use lib.Bits.{bitAnd}
 use lib.Dec.{eqb, ltb}
-use borrow.Author.Tests.{eqb-true, eqb-false, ltb-true}
+use borrow.Author.Tests.{eqb-true, eqb-false, ltb-true, le-ltb}
 use Rattle.words.specs.Words.{bit, union, difference}
-use Rattle.words.proofs.Bits.{On, on?, on-union, on-left, on-right, difference-on, on-single, single-only, on-below, empty-off}
+use Rattle.words.proofs.Bits.{On, on?, on-union, on-left, on-right, on-meet, meet-on, difference-on, on-single, single-only, on-below, empty-off}
 use Rattle.rows.specs.Row.{variable, property, chain, rowCount}
 use Rattle.rules.specs.Table.{Table, Has, Within, Shaped}
 use Rattle.rules.specs.Rule.{Rule, include, each, over, both, when, chosen}
@@ -24,11 +25,12 @@ use Rattle.rules.proofs.Resumes.{resumes-join, resumes-skip}
 use Rattle.format.specs.Sheet.{builtIn}
 use Rattle.program.specs.Program.{Program, namesOf, inClass}
 use Rattle.analysis.specs.Rules.{looking, storing}
-use Rattle.tables.specs.Sets.{Listed}
-use Rattle.lookups.specs.Kept.{Noted, Same, OnChains, Delta, Looked, Full}
+use Rattle.tables.specs.Sets.{Gathered, Listed}
+use Rattle.lookups.specs.Kept.{Noted, Same, Stirred, OnChains, Under, Joined, Exact, Delta, Exacts, Looked, Full}
 use Rattle.lookups.proofs.Looks.{whole-word}
 use Rattle.lookups.proofs.Fulls.{full-within, full-join}
 use Rattle.statements.specs.Range.{Key}
+use Rattle.statements.specs.View.{Named}
 use Rattle.statements.proofs.Passing.{closed-when, heeds-when}
 
 -- a row is noted or not
@@ -80,6 +82,49 @@ pub renewed-among : (last : List ℕ) (w chains fresh own renewed : ℕ) → ((m
     → (m : ℕ) → On renewed m → On (union chains own) m
 renewed-among last w chains fresh own renewed f r m o = elim (r .part m o) [ inl i ↦ on-left chains own m (f m i) | inr i ↦ on-right chains own m i ]
 
+-- r has what is in a property of `new` that is noted or of a fresh label, and nothing that is in no property of t
+pub record Collected (new t : Table) (last : List ℕ) (chains fresh names r : ℕ) : Type 0 where
+  pub source : (x : ℕ) → On r x → (m : ℕ) × On chains m × ((n : ℕ) × On names n × Has t (256 + 32 * m + n) x)
+  pub all : (m n x : ℕ) → n < 32 → On chains m → On names n → On fresh m ⊎ Noted last (256 + 32 * m + n) → Has new (256 + 32 * m + n) x → On r x
+
+pub collected-looked : (new t : Table) (last : List ℕ) (chains fresh names r : ℕ) → Within new t → Looked t last chains fresh names r
+    → Collected new t last chains fresh names r
+collected-looked new t last chains fresh names r within l =
+    record { source = l .source; all = λ m n x h c i e g. l .all m n x h c i e (within (256 + 32 * m + n) x g) }
+
+-- the unions of the labels that are fresh or of which a property is noted
+pub collected-unions : (new t : Table) (last unions : List ℕ) (base chains fresh stirred names r : ℕ) → chains < 2 ^ 64 → Within new t
+    → Stirred last stirred → ((m : ℕ) → m < 64 → Exact (Under new names m) (getD unions (base + m) 0))
+    → Gathered unions (bitAnd chains (union fresh stirred)) base r → Collected new t last chains fresh names r
+collected-unions new t last unions base chains fresh stirred names r small within stirs exact g =
+    record { source = source; all = all }
+  where
+    source : (x : ℕ) → On r x → (m : ℕ) × On chains m × ((n : ℕ) × On names n × Has t (256 + 32 * m + n) x)
+    source x o =
+        let q = g .source x o in
+        let u = exact (q .0) (g .below (q .0) (q .1)) .sound x (q .2) in
+        (q .0, on-meet chains (union fresh stirred) (q .0) (q .1) .0, (u .0, u .1, within (256 + 32 * q .0 + u .0) x (u .2)))
+
+    all : (m n x : ℕ) → n < 32 → On chains m → On names n → On fresh m ⊎ Noted last (256 + 32 * m + n) → Has new (256 + 32 * m + n) x → On r x
+    all m n x h c i e p =
+        let b : m < 64 = on-below 64 chains m small c in
+        let f : On (union fresh stirred) m = elim e [ inl o ↦ on-left fresh stirred m o | inr o ↦ on-right fresh stirred m (stirs m n b h o) ] in
+        g .all m x (meet-on chains (union fresh stirred) m c f) (exact m b .all x (n, i, p))
+
+-- those of one class among the four
+pub unions-at : (first : ℕ) (classes : List ℕ) (new : Table) (unions : List ℕ) (k : ℕ) → k < 4 → Exacts 256 (Joined first classes new) unions → (m : ℕ) → m < 64
+    → Exact (Under new (getD classes (first + k) 0) m) (getD unions (64 * k + m) 0)
+unions-at first classes new unions k h e m i =
+    let class : (64 * k + m) / 64 ≡ k = omega arith in
+    let label : (64 * k + m) % 64 ≡ m = omega arith in
+    rw (class, label) at (e (64 * k + m) (omega arith))
+
+-- the names of the key of a class
+pub class-named : (p : Program) (classes : List ℕ) (key first k : ℕ) → Named p classes → 128 ≤ key → key < 136 → key - 128 ≡ first + k
+    → Listed (namesOf (p .sheet) key) (getD classes (first + k) 0)
+unfolding namesOf
+class-named p classes key first k named h i e = rw (le-ltb key 128 h, ← e) (named (key - 128) (omega arith))
+
 module _ (p : Program) (last : List ℕ) (old new t : Table) (y x key w names chains fresh own renewed all : ℕ) where
   rule : Rule
   rule = both (looking p y key w) (each (variable x) (λ l. looking p y key l))
@@ -88,10 +133,10 @@ module _ (p : Program) (last : List ℕ) (old new t : Table) (y x key w names ch
       (ns : Listed (namesOf (p .sheet) key) names) (same : Same last old new) (d : Delta (OnChains old x) (OnChains new x) chains fresh)
       (within : Within new t) (is-own : own ≡ getD t (2304 + w) 0)
       (renew : Renewed last w fresh own renewed)
-      (looked : Looked t last (union chains own) renewed names all) where
+      (collected : Collected new t last (union chains own) renewed names all) where
     told : (v : ℕ) → 0 < y → On all v → Told 64 t rule y v
     unfolding rule
-    told v z o = go (looked .source v o)
+    told v z o = go (collected .source v o)
       where
         pick : (m n : ℕ) → On names n → Has t (256 + 32 * m + n) v → On chains m ⊎ On own m → Told 64 t rule y v
         pick m n i h (inl c) =
@@ -107,7 +152,7 @@ module _ (p : Program) (last : List ℕ) (old new t : Table) (y x key w names ch
         → Has new (256 + 32 * m + n) v → Has (join y all t) y v
     found m n v z c i e h =
         join-tells y all t z (omega (arith, shaped .long)) v
-        (looked .all m n v (names-below p key k n i) c (ns .all n i) e (within (256 + 32 * m + n) v h))
+        (collected .all m n v (names-below p key k n i) c (ns .all n i) e h)
 
     -- what is in another was drawn before, if its label was on the chain of l then
     before : (l m n v : ℕ) → 0 < y → On (union chains own) m → List·Memᴰ n (namesOf (p .sheet) key) → Draws 64 old t (looking p y key l)

@@ -1,5 +1,5 @@
 -- The range of each byte of a record's body, as far as rows are computed from it: labels below 64, names below 32, keys 0 to 31 or 128 to
--- 135. A readable file keeps to it (proofs/Range.antt). Assumes nothing.
+-- 135. A readable file keeps to it (proofs/Ranges.antt). Assumes nothing.
 use mathlib.Core.Path.{_≡_}
 use mathlib.Core.List.{List, [], _∷_}
 use Prim.Native.Nat.{ℕ, suc, _<_}

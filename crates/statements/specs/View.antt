@@ -11,7 +11,7 @@ use Rattle.rules.specs.Rule.{Rule, include, over, chosen}
 use Rattle.rules.specs.Round.{labels}
 use Rattle.program.specs.Program.{Program, inClass, isFunction, returnsOf}
 use Rattle.tables.specs.Sets.{Listed}
-use Rattle.lookups.specs.Kept.{Same, Stirred, OnChains, Method, Back, Deltas, Returned}
+use Rattle.lookups.specs.Kept.{Same, Stirred, OnChains, Method, Joined, Back, Deltas, Exacts, Returned}
 
 -- the names of each class, as words
 abbrev pub Named : Program → List ℕ → Type 0
@@ -37,10 +37,12 @@ handing formals inputs fs =
     over (labels 64 fs) (λ f. over (0 ∷ 1 ∷ 2 ∷ 3 ∷ 4 ∷ 5 ∷ 6 ∷ []) (λ j. include (variable (formal formals f j)) (variable (getD inputs j 0))))
 
 -- what a pass knows of `old` and `new`
-pub record View (old new : Table) (returned last chains fresh methods added handed : List ℕ) (stirred stale : ℕ) : Type 0 where
+pub record View (old new : Table) (returned classes last chains fresh methods added lower upper handed : List ℕ) (stirred stale : ℕ) : Type 0 where
   pub within : Within old new
   pub same : Same last old new
   pub stirs : Stirred last stirred
   pub chained : Deltas 256 OnChains old new chains fresh
   pub found : Deltas 256 Method old new methods added
+  pub low-unions : Exacts 256 (Joined 0 classes new) lower
+  pub high-unions : Exacts 256 (Joined 4 classes new) upper
   pub back : Returned returned old new handed stale

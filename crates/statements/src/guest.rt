@@ -11,7 +11,7 @@ ghost use Rattle.statements.specs.Desk.{guestRules};
 ghost use Rattle.statements.specs.View.{Laid, View};
 use crate::function::call;
 use crate::function::make_new;
-use crate::rule::load;
+use crate::rule::load_class;
 use crate::rule::store;
 use tables::store::give_row;
 use tables::store::include_row;
@@ -27,12 +27,13 @@ pub fn guest(
     last: &[u64; 38],
     chains: &[u64; 256],
     fresh: &[u64; 256],
+    lower: &[u64; 256],
     handed: &[u64; 64],
     stirred: u64,
     stale: u64,
 ) -> bool
-    requires { ⌜ (2432 ≤ length (now t)) × (length (now formals) ≡ 448) × (length (now handed) ≡ 64) × Stirred (now last) stirred × Part 256 (now fresh) (now chains) × (length (now full) ≡ 64) ⌝ }
-    ensures { λ r. ⌜ ((p : Program) (returned methods added : List ℕ) (old new : Table) → Laid p functions (now (flags .entry)) (now (formals .entry)) (now (classes .entry)) returned → View old new returned (now (last .entry)) (now (chains .entry)) (now (fresh .entry)) methods added (now (handed .entry)) stirred stale → Within new (now (t .entry)) → Full (now (t .entry)) (now (full .entry)) → Resumes 64 (guestRules p) old new (now (t .entry)) (now (t .exit)) r × Full (now (t .exit)) (now (full .exit))) ⌝ }
+    requires { ⌜ (2432 ≤ length (now t)) × (length (now formals) ≡ 448) × (length (now handed) ≡ 64) × Stirred (now last) stirred × Part 256 (now fresh) (now chains) × (length (now full) ≡ 64) × (length (now lower) ≡ 256) ⌝ }
+    ensures { λ r. ⌜ ((p : Program) (returned methods added upper : List ℕ) (old new : Table) → Laid p functions (now (flags .entry)) (now (formals .entry)) (now (classes .entry)) returned → View old new returned (now (classes .entry)) (now (last .entry)) (now (chains .entry)) (now (fresh .entry)) methods added (now (lower .entry)) upper (now (handed .entry)) stirred stale → Within new (now (t .entry)) → Full (now (t .entry)) (now (full .entry)) → Resumes 64 (guestRules p) old new (now (t .entry)) (now (t .exit)) r × Full (now (t .exit)) (now (full .exit))) ⌝ }
     ensures { λ _. ⌜ length (now (full .exit)) ≡ 64 ⌝ }
 {
     let bags = [1u8; 7];
@@ -41,7 +42,7 @@ pub fn guest(
     let f1 = fresh[1];
     let a = give_row(t, 1, 3);
     let b = give_row(t, 355, 3);
-    let c = load(t, last, c1, f1, stirred, names, 1, 1, 3);
+    let c = load_class(t, last, lower, c1, f1, stirred, 0, 1, 1, 3);
     let d = store(t, full, last, flags, names, 1, 1);
     let e = call(t, functions, formals, last, handed, stale, 3, 1, 1, &bags);
     let f = make_new(

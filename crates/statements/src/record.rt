@@ -6,7 +6,7 @@ ghost use lib.ListN.{length};
 ghost use Rattle.rules.specs.Table.{Table, Within};
 ghost use Rattle.rules.specs.Sweep.{Sweeps, Resumes};
 ghost use Rattle.program.specs.Program.{Program};
-ghost use Rattle.lookups.specs.Kept.{Same, Stirred, OnChains, Method, Part, Deltas, Returned, Full};
+ghost use Rattle.lookups.specs.Kept.{Same, Stirred, OnChains, Method, Joined, Part, Deltas, Exacts, Returned, Full};
 ghost use Rattle.statements.specs.Desk.{desk, recordRule};
 ghost use Rattle.statements.specs.Range.{InRange};
 ghost use Rattle.statements.specs.View.{Named, Laid, View};
@@ -15,6 +15,7 @@ use crate::function::convert;
 use crate::function::make_new;
 use crate::names::names_by;
 use crate::rule::load;
+use crate::rule::load_class;
 use crate::rule::store;
 use rows::Label;
 use rows::Name;
@@ -78,24 +79,36 @@ fn copy_record(t: &mut [u64], body: &[u8]) -> bool
     include_row(t, y, x)
 }
 
-// 17: load k, y, object, key, w.
+// 17: load k, y, object, key, w; `lower` and `upper` have the unions of properties for the classes 0 to 3 and 4 to 7.
 fn load_record(
     t: &mut [u64],
     classes: &[u64; 8],
     last: &[u64; 38],
     chains: &[u64; 256],
     fresh: &[u64; 256],
+    lower: &[u64; 256],
+    upper: &[u64; 256],
     stirred: u64,
     body: &[u8],
 ) -> bool
-    requires { ⌜ (2432 ≤ length (now t)) × InRange 17 (now body) × Stirred (now last) stirred × Part 256 (now fresh) (now chains) ⌝ }
-    ensures { λ r. ⌜ ((p : Program) (old new : Table) → Named p (now (classes .entry)) → Same (now (last .entry)) old new → Deltas 256 OnChains old new (now (chains .entry)) (now (fresh .entry)) → Within new (now (t .entry)) → Resumes 64 (recordRule p 17 (now (body .entry))) old new (now (t .entry)) (now (t .exit)) r) ⌝ }
+    requires { ⌜ (2432 ≤ length (now t)) × InRange 17 (now body) × Stirred (now last) stirred × Part 256 (now fresh) (now chains) × (length (now lower) ≡ 256) × (length (now upper) ≡ 256) ⌝ }
+    ensures { λ r. ⌜ ((p : Program) (old new : Table) → Named p (now (classes .entry)) → Exacts 256 (Joined 0 (now (classes .entry)) new) (now (lower .entry)) → Exacts 256 (Joined 4 (now (classes .entry)) new) (now (upper .entry)) → Same (now (last .entry)) old new → Deltas 256 OnChains old new (now (chains .entry)) (now (fresh .entry)) → Within new (now (t .entry)) → Resumes 64 (recordRule p 17 (now (body .entry))) old new (now (t .entry)) (now (t .exit)) r) ⌝ }
 {
-    let names = names_by(classes, body[3]);
     let y = wide(body[1]);
     let x = wide(body[2]);
+    let key = body[3];
     let w = wide(body[4]);
-    load(t, last, chains[x], fresh[x], stirred, names, y, x, w)
+    let k = wide(key);
+    let on = chains[x];
+    let new = fresh[x];
+    if k < 128 {
+        let names = names_by(classes, key);
+        return load(t, last, on, new, stirred, names, y, x, w);
+    }
+    if k < 132 {
+        return load_class(t, last, lower, on, new, stirred, 64 * (k - 128), y, x, w);
+    }
+    load_class(t, last, upper, on, new, stirred, 64 * (k - 132), y, x, w)
 }
 
 // 18: store k, object, key, value.
@@ -266,14 +279,16 @@ pub fn statement(
     fresh: &[u64; 256],
     methods: &[u64; 256],
     added: &[u64; 256],
+    lower: &[u64; 256],
+    upper: &[u64; 256],
     handed: &[u64; 64],
     stirred: u64,
     stale: u64,
     kind: u8,
     body: &[u8],
 ) -> bool
-    requires { ⌜ (2432 ≤ length (now t)) × InRange kind (now body) × (length (now formals) ≡ 448) × (length (now handed) ≡ 64) × Stirred (now last) stirred × Part 256 (now fresh) (now chains) × (length (now full) ≡ 64) ⌝ }
-    ensures { λ r. ⌜ ((p : Program) (returned : List ℕ) (old new : Table) → Laid p functions (now (flags .entry)) (now (formals .entry)) (now (classes .entry)) returned → View old new returned (now (last .entry)) (now (chains .entry)) (now (fresh .entry)) (now (methods .entry)) (now (added .entry)) (now (handed .entry)) stirred stale → Within new (now (t .entry)) → Full (now (t .entry)) (now (full .entry)) → Resumes 64 (recordRule p kind (now (body .entry))) old new (now (t .entry)) (now (t .exit)) r × Full (now (t .exit)) (now (full .exit))) ⌝ }
+    requires { ⌜ (2432 ≤ length (now t)) × InRange kind (now body) × (length (now formals) ≡ 448) × (length (now handed) ≡ 64) × Stirred (now last) stirred × Part 256 (now fresh) (now chains) × (length (now full) ≡ 64) × (length (now lower) ≡ 256) × (length (now upper) ≡ 256) ⌝ }
+    ensures { λ r. ⌜ ((p : Program) (returned : List ℕ) (old new : Table) → Laid p functions (now (flags .entry)) (now (formals .entry)) (now (classes .entry)) returned → View old new returned (now (classes .entry)) (now (last .entry)) (now (chains .entry)) (now (fresh .entry)) (now (methods .entry)) (now (added .entry)) (now (lower .entry)) (now (upper .entry)) (now (handed .entry)) stirred stale → Within new (now (t .entry)) → Full (now (t .entry)) (now (full .entry)) → Resumes 64 (recordRule p kind (now (body .entry))) old new (now (t .entry)) (now (t .exit)) r × Full (now (t .exit)) (now (full .exit))) ⌝ }
     ensures { λ _. ⌜ length (now (full .exit)) ≡ 64 ⌝ }
 {
     match kind {
@@ -282,7 +297,7 @@ pub fn statement(
         7 => property_record(t, body),
         8 => held_record(t, body),
         16 => copy_record(t, body),
-        17 => load_record(t, classes, last, chains, fresh, stirred, body),
+        17 => load_record(t, classes, last, chains, fresh, lower, upper, stirred, body),
         18 => store_record(t, full, classes, last, flags, body),
         19 => make_record(t, body),
         20 => function_record(t, body),

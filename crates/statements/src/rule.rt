@@ -1,8 +1,8 @@
 // Loads, stores and prototypes: the rules of properties. What a load finds is collected first and then joined to its row at once.
 ghost use mathlib.Core.Path.{_≡_};
 ghost use mathlib.Core.Bool.{not};
-ghost use Prim.Native.Nat.{ℕ, _<_, _≤_};
-ghost use lib.ListN.{length};
+ghost use Prim.Native.Nat.{ℕ, _+_, _<_, _≤_};
+ghost use lib.ListN.{length, getD};
 ghost use lib.Dec.{eqb};
 ghost use Rattle.words.specs.Words.{bit};
 ghost use Rattle.rows.specs.Row.{variable, property, chain};
@@ -13,10 +13,11 @@ ghost use Rattle.rules.specs.Sweep.{Sweeps, Resumes};
 ghost use Rattle.program.specs.Program.{Program, namesOf};
 ghost use Rattle.analysis.specs.Rules.{loading, storing};
 ghost use Rattle.tables.specs.Sets.{Listed};
-ghost use Rattle.lookups.specs.Kept.{Same, Stirred, OnChains, Delta, Full};
+ghost use Rattle.lookups.specs.Kept.{Same, Stirred, OnChains, Under, Exact, Delta, Full};
 ghost use Rattle.statements.specs.Range.{Key};
 use lookups::look::look;
 use lookups::note::noted;
+use tables::gather::gather;
 use tables::store::give_row;
 use tables::store::include_names;
 use tables::store::join_row;
@@ -44,6 +45,35 @@ pub fn load(
         fresh
     };
     let all = look(t, last, words::join(chains, own), renewed, stirred, names);
+    let grew = join_row(t, y, all);
+    gave | grew
+}
+
+// The same for the names of a class: from place `base` on, `unions` has for each label the union of its properties under them.
+pub fn load_class(
+    t: &mut [u64],
+    last: &[u64; 38],
+    unions: &[u64; 256],
+    chains: u64,
+    fresh: u64,
+    stirred: u64,
+    base: usize,
+    y: usize,
+    x: usize,
+    w: usize,
+) -> bool
+    requires { ⌜ (2432 ≤ length (now t)) × (y < 256) × (x < 256) × (w < 64) × (base + 64 ≤ 256) × (length (now unions) ≡ 256) × Stirred (now last) stirred ⌝ }
+    ensures { λ r. ⌜ ((p : Program) (key names : ℕ) (old new : Table) → Key key → Listed (namesOf (p .sheet) key) names → ((m : ℕ) → m < 64 → Exact (Under new names m) (getD (now (unions .entry)) (base + m) 0)) → Same (now (last .entry)) old new → Delta (OnChains old x) (OnChains new x) chains fresh → Within new (now (t .entry)) → Resumes 64 (loading p y x key w) old new (now (t .entry)) (now (t .exit)) r) ⌝ }
+{
+    let gave = give_row(t, x, w);
+    let own = t[2304 + w];
+    let renewed = if noted(last, 2304 + w) {
+        words::join(fresh, own)
+    } else {
+        fresh
+    };
+    let some = words::meet(words::join(chains, own), words::join(renewed, stirred));
+    let all = gather(unions, some, base);
     let grew = join_row(t, y, all);
     gave | grew
 }

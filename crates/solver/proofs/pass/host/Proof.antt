@@ -19,13 +19,13 @@ use Rattle.solver.proofs.pass.host.Statement.{statement}
 use Rattle.solver.proofs.pass.host.Tie as tie
 
 abbrev Inv-loop : tie.InvT-loop
-Inv-loop t₀ full₀ file functions flags formals classes last chains fresh methods added handed stirred stale lengths grew₀ at₀ t full grew at =
+Inv-loop t₀ full₀ file functions flags formals classes last chains fresh methods added lower upper handed stirred stale lengths grew₀ at₀ t full grew at =
     ((length t ≡ length t₀) × (length full ≡ 64)) × ((w : Walk file at) × ((p : Program) (returned : List ℕ) (old new : Table) → Laid p functions flags formals classes returned
-    → View old new returned last chains fresh methods added handed stirred stale → Within new t₀ → Full t₀ full₀
+    → View old new returned classes last chains fresh methods added lower upper handed stirred stale → Within new t₀ → Full t₀ full₀
     → Resumes 64 (every (rulesOf p (w .done))) old new t₀ t grew × Full t full))
 
 abbrev μ-loop : tie.MeasureT-loop
-μ-loop t₀ full₀ file functions flags formals classes last chains fresh methods added handed stirred stale lengths grew₀ at₀ t full grew at = length file - at
+μ-loop t₀ full₀ file functions flags formals classes last chains fresh methods added lower upper handed stirred stale lengths grew₀ at₀ t full grew at = length file - at
 
 lengths-requires : tie.Need-lengths-requires Inv-loop μ-loop
 lengths-requires c κs = search needs
@@ -126,29 +126,13 @@ statement-requires c κs =
     let room = walk-room w h in
     let pre = c .before .before .before .before .before .before .before .before .before .before .before .pre in
     let long : 2432 ≤ length (c .before .before .before .before .before .before .before .loop .t) = omega (arith, c .before .before .before .before .before .before .before .loop .inv .0 .0, pre .0) in
-    (long, walk-range w h (c .before .before .before .wide2 .result) size, pre .2, pre .3, pre .4, pre .5, c .before .before .before .before .before .before .before .loop .inv .0 .1)
+    (long, walk-range w h (c .before .before .before .wide2 .result) size, pre .2, pre .3, pre .4, pre .5, c .before .before .before .before .before .before .before .loop .inv .0 .1, pre .7, pre .8)
 
 add-at : tie.Need-add-at Inv-loop μ-loop
-add-at c =
-    let w = c .before .before .before .before .before .before .before .before .before .before .loop .inv .1 .0 in
-    let h = c .before .before .before .before .before .before .before .before .before .loop-test .taken in
-    let k = getD (c .before .before .before .before .before .before .before .before .before .before .before .before .before .before .args .file .now) (c .before .before .before .before .before .before .before .before .before .before .loop .at) 0 in
-    let n = c .before .before .before .before .before .before .wide2 .ensures .0 in
-    let size : c .before .before .before .before .before .before .wide2 .result ≡ bodyLength k =
-    n ∙ ap₂ (λ (xs : List ℕ) (i : ℕ). getD xs i 0) (c .before .before .before .before .before .before .before .before .before .before .before .lengths .ensures) (c .before .before .before .before .before .before .before .wide .ensures .0) ∙ length-at k in
-    let room = walk-room w h in
-    omega arith
+add-at c = add-statement (c .before .before .before .before)
 
 add-at-2 : tie.Need-add-at-2 Inv-loop μ-loop
-add-at-2 c =
-    let w = c .before .before .before .before .before .before .before .before .before .before .loop .inv .1 .0 in
-    let h = c .before .before .before .before .before .before .before .before .before .loop-test .taken in
-    let k = getD (c .before .before .before .before .before .before .before .before .before .before .before .before .before .before .args .file .now) (c .before .before .before .before .before .before .before .before .before .before .loop .at) 0 in
-    let n = c .before .before .before .before .before .before .wide2 .ensures .0 in
-    let size : c .before .before .before .before .before .before .wide2 .result ≡ bodyLength k =
-    n ∙ ap₂ (λ (xs : List ℕ) (i : ℕ). getD xs i 0) (c .before .before .before .before .before .before .before .before .before .before .before .lengths .ensures) (c .before .before .before .before .before .before .before .wide .ensures .0) ∙ length-at k in
-    let room = walk-room w h in
-    omega arith
+add-at-2 c = add-statement-3 (c .before .before .before .before)
 
 loop-less : tie.Need-loop-less Inv-loop μ-loop
 loop-less c =

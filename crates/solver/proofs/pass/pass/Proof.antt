@@ -20,7 +20,7 @@ guest-requires c κs =
     let chains = chain .before .before .before .before in
     let start = chains .before .before .before .before in
     let e : length (chain .guest-chain .last .0) ≡ length (start .args .t .now) = chain .guest-chain .kept .0 ∙ chains .chains .kept .0 in
-    (omega (arith, e, start .pre .0), start .pre .2, start .pre .3, start .pre .4, start .pre .5, start .pre .6)
+    (omega (arith, e, start .pre .0), start .pre .2, start .pre .3, start .pre .4, start .pre .5, start .pre .6, start .pre .7)
 
 host-requires : tie.Need-host-requires
 host-requires c κs =
@@ -29,7 +29,7 @@ host-requires c κs =
     let chains = chain .before .before .before .before in
     let start = chains .before .before .before .before in
     let e : length (guest .guest .last .0) ≡ length (start .args .t .now) = guest .guest .kept .0 ∙ chain .guest-chain .kept .0 ∙ chains .chains .kept .0 in
-    (omega (arith, e, start .pre .0), start .pre .1, start .pre .2, start .pre .3, start .pre .4, start .pre .5, guest .guest .ensures .1)
+    (omega (arith, e, start .pre .0), start .pre .1, start .pre .2, start .pre .3, start .pre .4, start .pre .5, guest .guest .ensures .1, start .pre .7, start .pre .8)
 
 same-length : tie.Need-same-length
 same-length c = search needs
@@ -47,7 +47,7 @@ returns c =
           let second = sweeps-resumes in-first (chain .guest-chain .ensures) in
           let in-second = within-on new in-first (second .reaches) in
           let full-second = keeping (a .full .now) (resumes-both first second) f .1 in
-          let third = guest .guest .ensures .0 p returned (a .methods .now) (a .added .now) old new l v in-second full-second in
+          let third = guest .guest .ensures .0 p returned (a .methods .now) (a .added .now) (a .upper .now) old new l v in-second full-second in
           let in-third = within-on new in-second (third .0 .reaches) in
           let fourth = host .host .ensures .0 p returned old new l v in-third (third .1) in
           (resumes-both first (resumes-both second (resumes-both (third .0) (fourth .0))), fourth .1),

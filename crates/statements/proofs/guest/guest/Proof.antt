@@ -2,13 +2,13 @@
 use mathlib.Core.Path.{_≡_, refl, _∙_}
 use Prim.Native.Nat.{_≤_}
 use native.Mathlib.Omega.{arith}
-use lib.ListN.{length, replicate}
+use lib.ListN.{length, getD, replicate}
 use Rattle.rows.specs.Row.{variable, property, thrown}
 use Rattle.rules.proofs.Sweep.{give-row, include-rows}
 use Rattle.rules.proofs.Resumes.{sweeps-resumes, resumes-both, resumes-none, within-on}
 use Rattle.program.specs.Program.{namesOf, statements, guestStatements, guestsStatements, returnsOf}
 use Rattle.statements.specs.Range.{Key}
-use Rattle.statements.proofs.Finds.{keeping}
+use Rattle.statements.proofs.Finds.{unions-at, keeping}
 use Rattle.statements.proofs.Records.{resumes-one}
 use borrow.Author.Needs.{needs}
 use Rattle.statements.proofs.guest.guest.Statement.{statement}
@@ -29,15 +29,15 @@ give-row-requires c κs = search needs
 give-row-requires-2 : tie.Need-give-row-requires-2
 give-row-requires-2 c κs = search needs
 
-load-requires : tie.Need-load-requires
-load-requires c κs =
+load-class-requires : tie.Need-load-class-requires
+load-class-requires c κs =
     let two = c .before .before .before in
     let one = two .before .before .before .before in
     let start = one .before .before .before .before .before .before in
     let e : length (two .give-row2 .last .0) ≡ length (start .args .t .now) =
     two .give-row2 .ensures .reaches .same-length ∙ one .give-row .ensures .reaches .same-length in
     let long : 2432 ≤ length (two .give-row2 .last .0) = omega (arith, e, start .pre .0) in
-    (long, omega arith, omega arith, omega arith, start .pre .3, λ m o. start .pre .4 1 m (omega arith) o)
+    (long, omega arith, omega arith, omega arith, omega arith, start .pre .6, start .pre .3)
 
 store-requires : tie.Need-store-requires
 store-requires c κs =
@@ -45,9 +45,9 @@ store-requires c κs =
     let two = three .before .before .before .before in
     let one = two .before .before .before .before in
     let start = one .before .before .before .before .before .before in
-    let e : length (three .load .last .0) ≡ length (start .args .t .now) =
-    three .load .kept .0 ∙ two .give-row2 .ensures .reaches .same-length ∙ one .give-row .ensures .reaches .same-length in
-    let long : 2432 ≤ length (three .load .last .0) = omega (arith, e, start .pre .0) in
+    let e : length (three .load-class .last .0) ≡ length (start .args .t .now) =
+    three .load-class .kept .0 ∙ two .give-row2 .ensures .reaches .same-length ∙ one .give-row .ensures .reaches .same-length in
+    let long : 2432 ≤ length (three .load-class .last .0) = omega (arith, e, start .pre .0) in
     (long, omega arith, omega arith, start .pre .5)
 
 slice-aggregate-call : tie.Need-slice-aggregate-call
@@ -61,7 +61,7 @@ call-requires c κs =
     let one = two .before .before .before .before in
     let start = one .before .before .before .before .before .before in
     let e : length (four .store .last .0) ≡ length (start .args .t .now) =
-    four .store .kept .0 ∙ three .load .kept .0 ∙ two .give-row2 .ensures .reaches .same-length ∙ one .give-row .ensures .reaches .same-length in
+    four .store .kept .0 ∙ three .load-class .kept .0 ∙ two .give-row2 .ensures .reaches .same-length ∙ one .give-row .ensures .reaches .same-length in
     let long : 2432 ≤ length (four .store .last .0) = omega (arith, e, start .pre .0) in
     search needs
 
@@ -77,7 +77,7 @@ make-new-requires c κs =
     let one = two .before .before .before .before in
     let start = one .before .before .before .before .before .before in
     let e : length (five .call .last .0) ≡ length (start .args .t .now) =
-    five .call .kept .0 ∙ four .store .kept .0 ∙ three .load .kept .0 ∙ two .give-row2 .ensures .reaches .same-length ∙ one .give-row .ensures .reaches .same-length in
+    five .call .kept .0 ∙ four .store .kept .0 ∙ three .load-class .kept .0 ∙ two .give-row2 .ensures .reaches .same-length ∙ one .give-row .ensures .reaches .same-length in
     let long : 2432 ≤ length (five .call .last .0) = omega (arith, e, start .pre .0) in (
       long,
       omega arith,
@@ -101,7 +101,7 @@ include-row-requires c κs =
     let one = two .before .before .before .before in
     let start = one .before .before .before .before .before .before in
     let e : length (six .make-new .last .0) ≡ length (start .args .t .now) =
-    six .make-new .kept .0 ∙ five .call .kept .0 ∙ four .store .kept .0 ∙ three .load .kept .0 ∙ two .give-row2 .ensures .reaches .same-length
+    six .make-new .kept .0 ∙ five .call .kept .0 ∙ four .store .kept .0 ∙ three .load-class .kept .0 ∙ two .give-row2 .ensures .reaches .same-length
     ∙ one .give-row .ensures .reaches .same-length in
     let long : 2432 ≤ length (six .make-new .last .0) = omega (arith, e, start .pre .0) in
     (long, omega arith, omega arith)
@@ -117,7 +117,7 @@ include-row-requires-2 c κs =
     let one = two .before .before .before .before in
     let start = one .before .before .before .before .before .before in
     let e : length (seven .include-row .last .0) ≡ length (start .args .t .now) =
-    seven .include-row .ensures .reaches .same-length ∙ six .make-new .kept .0 ∙ five .call .kept .0 ∙ four .store .kept .0 ∙ three .load .kept .0
+    seven .include-row .ensures .reaches .same-length ∙ six .make-new .kept .0 ∙ five .call .kept .0 ∙ four .store .kept .0 ∙ three .load-class .kept .0
     ∙ two .give-row2 .ensures .reaches .same-length ∙ one .give-row .ensures .reaches .same-length in
     let long : 2432 ≤ length (seven .include-row .last .0) = omega (arith, e, start .pre .0) in
     (long, omega arith, omega arith)
@@ -135,7 +135,7 @@ same-length c =
     let start = one .before .before .before .before .before .before in
     let e : length (eight .include-row2 .last .0) ≡ length (start .args .t .now) =
     eight .include-row2 .ensures .reaches .same-length ∙ seven .include-row .ensures .reaches .same-length ∙ six .make-new .kept .0 ∙ five .call .kept .0
-    ∙ four .store .kept .0 ∙ three .load .kept .0 ∙ two .give-row2 .ensures .reaches .same-length ∙ one .give-row .ensures .reaches .same-length in
+    ∙ four .store .kept .0 ∙ three .load-class .kept .0 ∙ two .give-row2 .ensures .reaches .same-length ∙ one .give-row .ensures .reaches .same-length in
     e
 
 returns : tie.Need-returns
@@ -151,14 +151,15 @@ returns c =
     let to-one = to-two .before .before .before .before in
     let start = to-one .before .before .before .before .before .before in
     let a = start .args in (
-      λ p returned methods added old new laid view within full.
+      λ p returned methods added upper old new laid view within full.
           let key : Key 128 = (omega arith, λ h. absurd (omega arith)) in
           let chained = view .chained 1 (omega arith) in
           let one = sweeps-resumes within (to-one .give-row .ensures) in
           let in-one = within-on new within (one .reaches) in
           let two = sweeps-resumes in-one (give-row (variable 355) (property 3 3) 3 refl (to-two .give-row2 .ensures)) in
           let in-two = within-on new in-one (two .reaches) in
-          let three = to-three .load .ensures p 128 old new key (laid .names 0 (omega arith)) (view .same) chained in-two in
+          let three = to-three .load-class .ensures p 128 (getD (a .classes .now) 0 0) old new key (laid .names 0 (omega arith))
+          (unions-at 0 (a .classes .now) new (a .lower .now) 0 (omega arith) (view .low-unions)) (view .same) chained in-two in
           let in-three = within-on new in-two (three .reaches) in
           let full-three = keeping (a .full .now) (resumes-both (resumes-both one two) three) full .1 in
           let stored = to-four .store .ensures .0 p 128 old new (laid .flags-are) key (laid .names 0 (omega arith)) (view .same) in-three full-three in
@@ -187,7 +188,7 @@ guest-spec =
     element-copy-out-f1
     give-row-requires
     give-row-requires-2
-    load-requires
+    load-class-requires
     store-requires
     slice-aggregate-call
     call-requires

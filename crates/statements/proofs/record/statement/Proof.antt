@@ -26,7 +26,7 @@ copy-record-requires : tie.Need-copy-record-requires
 copy-record-requires c κs = let pre = c .before .before .before .before .pre in (pre .0, rw (c .before .match .keys5) at (pre .1))
 
 load-record-requires : tie.Need-load-record-requires
-load-record-requires c κs = let pre = c .before .before .before .before .pre in (pre .0, rw (c .before .match .keys6) at (pre .1), pre .4, pre .5)
+load-record-requires c κs = let pre = c .before .before .before .before .pre in (pre .0, rw (c .before .match .keys6) at (pre .1), pre .4, pre .5, pre .7, pre .8)
 
 store-record-requires : tie.Need-store-record-requires
 store-record-requires c κs = let pre = c .before .before .before .before .before .pre in (pre .0, rw (c .before .before .match .keys7) at (pre .1), pre .6)
@@ -120,7 +120,7 @@ unfolding statementsOf namesOf returnsOf statements guestsStatements
 returns-6 c =
     let start = c .before .before .before .before .before .before .before in (
       λ p returned old new laid view within f.
-          rw (c .before .before .before .before .match .keys6) (keeping (start .args .full .now) (c .before .before .load-record .ensures p old new (laid .names) (view .same) (view .chained) within) f),
+          rw (c .before .before .before .before .match .keys6) (keeping (start .args .full .now) (c .before .before .load-record .ensures p old new (laid .names) (view .low-unions) (view .high-unions) (view .same) (view .chained) within) f),
       start .pre .6,
     )
 

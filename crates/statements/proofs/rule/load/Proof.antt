@@ -9,8 +9,8 @@ use Rattle.words.specs.Words.{union}
 use Rattle.words.proofs.Laws.{union-lt}
 use Rattle.rules.specs.Table.{Shaped}
 use Rattle.rules.proofs.Sweep.{reaches-shaped}
-use Rattle.rules.proofs.Resumes.{sweeps-resumes, resumes-both, resumes-equal}
-use Rattle.statements.proofs.Finds.{Renewed, renewed-all, renewed-none, renewed-among, note-off, load-resumes}
+use Rattle.rules.proofs.Resumes.{sweeps-resumes, resumes-both, resumes-equal, within-on}
+use Rattle.statements.proofs.Finds.{Renewed, renewed-all, renewed-none, renewed-among, note-off, collected-looked, load-resumes}
 use Rattle.statements.proofs.rule.load.Statement.{statement}
 use Rattle.statements.proofs.rule.load.Tie as tie
 
@@ -80,12 +80,15 @@ returns c =
     let shaped : Shaped 64 (a .t .now) = record { long = start .pre .0; small = λ i. known .slice-known .given i .fits } in
     let then = reaches-shaped (gave .give-row .ensures .reaches) shaped in
     let wide : union (a .chains) own < 2 ^ 64 = union-lt 64 (a .chains) own (start .fits .chains .fits) (then .small (2304 + a .w)) in
-    λ p key old new k listed same d within. resumes-both (sweeps-resumes within (gave .give-row .ensures))
+    λ p key old new k listed same d within.
+    let in-gave = within-on new within (gave .give-row .ensures .reaches) in
+    resumes-both (sweeps-resumes within (gave .give-row .ensures))
     (resumes-equal (e .0) (e .1)
     (load-resumes p (a .last .now) old new (gave .give-row .last .0) (a .y) (a .x) key (a .w) (a .names) (a .chains) (a .fresh) own
     (joined .if1 .renewed) (look .look .result) then (start .pre .1) (start .pre .3) wide (search needs) k listed same d
-    (λ r l h. gave .give-row .ensures .reaches .adds r l (within r l h)) refl renew
-    (rw (look .before .join2 .ensures) at (look .look .ensures))))
+    in-gave refl renew
+    (collected-looked new (gave .give-row .last .0) (a .last .now) (union (a .chains) own) (joined .if1 .renewed) (a .names) (look .look .result) in-gave
+    (rw (look .before .join2 .ensures) at (look .look .ensures)))))
 
 pub load-spec : {M : Type 1} → statement M
 load-spec =
