@@ -1,3 +1,4 @@
 -- Laws that other crates cite. Assumes nothing.
 pub mod Loops
 pub mod Found
+pub mod Stored

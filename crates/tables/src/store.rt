@@ -19,8 +19,11 @@ pub fn join_row(t: &mut [u64], y: usize, w: u64) -> bool
     }
     let old = t[y];
     let new = words::join(old, w);
+    if new == old {
+        return false;
+    }
     t[y] = new;
-    new != old
+    true
 }
 
 // Label l, into row y.
