@@ -6,7 +6,7 @@ use Prim.Native.Nat.{ℕ, _+_, _*_, _<_}
 use native.Mathlib.Decide.{ℕ-discrete}
 use lib.ListN.{length, getD, set, replicate, getD-replicate}
 use lib.Seq.{getD-set-same, getD-set-other}
-use Rattle.words.specs.Words.{bit, union}
+use Rattle.words.specs.Words.{union}
 use Rattle.words.proofs.Bits.{On, on-union, empty-off}
 use Rattle.rules.specs.Table.{Table, Has, Within}
 use Rattle.lookups.specs.Kept.{Full}

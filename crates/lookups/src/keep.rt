@@ -1,4 +1,4 @@
-// The words kept for each variable and each function, brought up to date with the table at the start of a pass.
+// The words kept for each variable, each function and each label, brought up to date with the table at the start of a pass.
 ghost use mathlib.Core.Path.{_≡_};
 ghost use mathlib.Core.List.{List};
 ghost use Prim.Native.Nat.{ℕ, _<_, _≤_};

@@ -1,5 +1,5 @@
-// What a pass over the rules goes by: which rows grew in the pass before, and for each variable and each function a word of what the rules look up
-// through it.
+// What a pass over the rules goes by: which rows grew in the pass before, and for each variable, each function and each label words of what the rules
+// look up through it.
 
 pub mod keep;
 pub mod look;

@@ -4,9 +4,8 @@ use mathlib.Core.List.{List, [], _∷_, _++_, map}
 use mathlib.Core.Bool.{true}
 use Prim.Native.Nat.{ℕ, _+_, _*_, _/_, _%_, _<_}
 use native.Mathlib.Omega.{arith}
-use lib.ListN.{getD, drop, replicate, length-replicate, getD-replicate, List·getD-append}
+use lib.ListN.{getD, drop, length-replicate, getD-replicate, List·getD-append}
 use lib.Seq.{getD-drop}
-use lib.Dec.{eqb}
 use borrow.Author.Tests.{eqb-true, eq-eqb}
 use Rattle.words.proofs.Bits.{On}
 use Rattle.rules.specs.Table.{Table, Small, emptyTable}
@@ -22,7 +21,7 @@ use Rattle.format.specs.Reading.{readFile, Readable}
 use Rattle.format.proofs.Later.{declared-below}
 use Rattle.format.proofs.Readable.{readable-ready}
 use Rattle.program.specs.Statement as say
-use Rattle.program.specs.Program.{Program, inClass, isFunction, namesOf, statements, guestStatements, guestsStatements, hostStatements, returnsOf, programOf}
+use Rattle.program.specs.Program.{Program, inClass, isFunction, statements, guestStatements, guestsStatements, hostStatements, programOf}
 use Rattle.analysis.specs.Rules.{ruleOf, rules}
 use Rattle.analysis.specs.Verdict.{leastTable}
 use Rattle.analysis.proofs.Fit.{rules-fit}

@@ -11,10 +11,10 @@ use lib.Dec.{eqb, ltb}
 use borrow.Author.Tests.{eqb-true, eqb-false, ltb-true, le-ltb}
 use Rattle.words.specs.Words.{bit, union, difference}
 use Rattle.words.proofs.Bits.{On, on?, on-union, on-left, on-right, on-meet, meet-on, difference-on, on-single, single-only, on-below, empty-off}
-use Rattle.rows.specs.Row.{variable, property, chain, rowCount}
+use Rattle.rows.specs.Row.{variable, property, chain}
 use Rattle.rules.specs.Table.{Table, Has, Within, Shaped}
 use Rattle.rules.specs.Rule.{Rule, include, each, over, both, when, chosen}
-use Rattle.rules.specs.Told.{Told, Closed}
+use Rattle.rules.specs.Told.{Told}
 use Rattle.rules.specs.Round.{join, labels}
 use Rattle.rules.specs.Gap.{grows}
 use Rattle.rules.specs.Sweep.{Heeds, Draws, Sweeps, Resumes}

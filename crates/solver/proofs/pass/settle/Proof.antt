@@ -1,7 +1,7 @@
 -- Passes until one adds nothing: the invariant is how far the loop has come, and what is known of the table at the start of the last pass. Assumes nothing.
 use borrow.Author.Needs.{needs}
 use mathlib.Core.Path.{_≡_, refl, ap, _∙_}
-use Prim.Native.Nat.{ℕ, _≤_}
+use Prim.Native.Nat.{ℕ}
 use native.Mathlib.Omega.{arith}
 use lib.ListN.{length, length-replicate}
 use Rattle.rules.proofs.Sweep.{left}

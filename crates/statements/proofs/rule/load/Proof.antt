@@ -1,9 +1,8 @@
 -- S(object) holds w, and what the chains of its labels and of w have under the names goes to S(y), as far as it is new. Assumes nothing.
 use borrow.Author.Needs.{needs}
-use mathlib.Core.Path.{_≡_, refl, _∙_}
+use mathlib.Core.Path.{refl, _∙_}
 use mathlib.Core.Logic.{inl, inr}
 use Prim.Native.Nat.{_+_, _^_, _<_}
-use native.Mathlib.Omega.{arith}
 use lib.ListN.{getD}
 use Rattle.words.specs.Words.{union}
 use Rattle.words.proofs.Laws.{union-lt}
