@@ -7,8 +7,9 @@
 
 mod records;
 
-use second::program::{Program, Record, Type};
+use second::program::{Program, Record};
 use second::rows::{bit, h, labels, p, s, ROWS};
+use second::solver::chain_without_members;
 use std::time::{Duration, Instant};
 
 #[derive(Clone, Copy, PartialEq, Eq, Debug, Default)]
@@ -123,17 +124,7 @@ impl Passes<'_> {
     /// The P line and the names of variables.
     fn declared(&mut self) {
         for (l, label) in self.program.declared() {
-            let by_type = match label.kind {
-                Type::Plain => 1,
-                Type::Function => 2,
-                Type::Array => 4,
-            };
-            let by_label = match l {
-                0 | 2 | 4 => bit(1),
-                3 => bit(1) | bit(2) | bit(4),
-                _ => 0,
-            };
-            self.add(p(l), bit(l) | bit(by_type) | by_label);
+            self.add(p(l), chain_without_members(l, label.kind));
             self.add(p(l), self.chains_of(self.table[p(l)]));
         }
         for (v, n) in self.program.named() {

@@ -19,7 +19,8 @@ use Rattle.statements.specs.Range.{Key}
 use Rattle.tables.proofs.Loops.{Unions, unions-end}
 use Rattle.statements.proofs.Words.{listed-single, listed-prim}
 use Rattle.checker.specs.Kept as kept
-use Rattle.checker.specs.Kept.{Each, Joined, Under, Common, Exact, nameWord}
+use Rattle.checker.specs.Kept.{Each, Joined, Under, Common, nameWord}
+use Rattle.lookups.specs.Kept.{Exact}
 
 -- ---- arrays
 

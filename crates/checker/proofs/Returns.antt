@@ -27,7 +27,8 @@ use Rattle.tables.specs.Sets.{Gathered}
 use Rattle.statements.specs.Desk.{desk}
 use Rattle.lookups.specs.Kept.{Back}
 use Rattle.statements.proofs.Returns.{returned-back, back-returned}
-use Rattle.checker.specs.Kept.{Joined, Exact, Method}
+use Rattle.checker.specs.Kept.{Joined, Method}
+use Rattle.lookups.specs.Kept.{Exact}
 
 -- ---- rows counted from 0
 

@@ -13,6 +13,7 @@ use Rattle.rules.specs.Round.{labels}
 use Rattle.rules.specs.Gap.{Finds}
 use Rattle.program.specs.Program.{namesOf, returnsOf}
 use Rattle.tables.specs.Sets.{Gathered, Listed}
+use Rattle.lookups.specs.Kept.{Exact}
 use Rattle.statements.specs.Desk.{desk}
 
 -- each of the first n words is good
@@ -32,11 +33,6 @@ pub record Under (t : Table) (ms : ℕ) (ns : List ℕ) (r : ℕ) : Type 0 where
 -- each label of r is in all the rows base + l, for each label l of the word ls
 abbrev pub Common : Table → ℕ → ℕ → ℕ → Type 0
 Common t ls base r = (l x : ℕ) → bit ls l ≡ 1 → bit r x ≡ 1 → Has t (base + l) x
-
--- the word holds exactly the labels of the set
-pub record Exact (set : ℕ → Type 0) (word : ℕ) : Type 0 where
-  pub all : (m : ℕ) → set m → bit word m ≡ 1
-  pub sound : (m : ℕ) → bit word m ≡ 1 → set m
 
 -- ---- classes of names
 

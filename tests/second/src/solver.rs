@@ -98,22 +98,27 @@ pub fn verdict_of(program: &Program, table: &[u64]) -> Verdict {
     }
 }
 
+/// What the P line gives label l of that type without any premise.
+pub fn chain_without_members(l: u8, kind: Type) -> u64 {
+    let by_type = match kind {
+        Type::Plain => 1,
+        Type::Function => 2,
+        Type::Array => 4,
+    };
+    let by_label = match l {
+        0 | 2 | 4 => bit(1),
+        3 => bit(1) | bit(2) | bit(4),
+        _ => 0,
+    };
+    bit(l) | bit(by_type) | by_label
+}
+
 impl Solver<'_> {
     /// The P line, the names of variables, and the chains of variables.
     fn start(&mut self) {
         for (l, label) in self.program.declared() {
-            let by_type = match label.kind {
-                Type::Plain => 1,
-                Type::Function => 2,
-                Type::Array => 4,
-            };
-            let by_label = match l {
-                0 | 2 | 4 => bit(1),
-                3 => bit(1) | bit(2) | bit(4),
-                _ => 0,
-            };
             self.wait(p(l), Wait::Chain { l });
-            self.graph.hold(p(l), bit(l) | bit(by_type) | by_label);
+            self.graph.hold(p(l), chain_without_members(l, label.kind));
         }
         for (v, n) in self.program.named() {
             self.graph.include(s(v), h(0, n));

@@ -6,7 +6,8 @@ use native.Mathlib.Omega.{arith}
 use lib.ListN.{length, length-set, getD}
 use Rattle.rules.specs.Table.{Has}
 use Rattle.checker.specs.Seen.{seen}
-use Rattle.checker.specs.Kept.{Each, Exact}
+use Rattle.checker.specs.Kept.{Each}
+use Rattle.lookups.specs.Kept.{Exact}
 use Rattle.checker.proofs.Keeps.{kept-none, kept-next}
 use Rattle.checker.proofs.keep.keep_callees.Statement.{statement}
 use Rattle.checker.proofs.keep.keep_callees.Tie as tie

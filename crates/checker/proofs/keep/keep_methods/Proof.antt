@@ -5,7 +5,8 @@ use Prim.Native.Nat.{_-_, _≤_}
 use native.Mathlib.Omega.{arith}
 use lib.ListN.{length, length-set, getD}
 use Rattle.checker.specs.Seen.{seen}
-use Rattle.checker.specs.Kept.{Each, Exact, Method}
+use Rattle.checker.specs.Kept.{Each, Method}
+use Rattle.lookups.specs.Kept.{Exact}
 use Rattle.checker.proofs.Keeps.{kept-none, kept-next, methods-exact}
 use Rattle.checker.proofs.keep.keep_methods.Statement.{statement}
 use Rattle.checker.proofs.keep.keep_methods.Tie as tie
