@@ -1,41 +1,123 @@
--- The lowest label of a word from a label up, found among the labels of the word shifted down. Assumes nothing.
-use mathlib.Core.Path.{_≡_, ap, sym, _∙_}
-use Prim.Native.Nat.{ℕ, _+_, _-_, _/_, _%_, _^_, _≤_, _<_}
+-- Loops over the labels of a word, `let mut rest = w; let mut l = first(rest); while l < 64 { .. l ..; rest = rest(rest); l = first(rest); }`:
+-- the lowest label, and the word without it. Assumes nothing.
+use mathlib.Core.Path.{_≡_, refl, ap, sym, _∙_}
+use Prim.Native.Nat.{ℕ, zero, suc, _+_, _-_, _/_, _%_, _^_, _≤_, _<_, min}
+use native.Mathlib.Decide.{ℕ-discrete, decLt}
 use native.Mathlib.Omega.{arith}
-use lib.Pow.{shr-shr, shr-le}
-use lib.Count.{trailingZeros}
-use Rattle.words.specs.Words.{bit, Next}
-use Rattle.words.proofs.Laws.{bit-zero, Lowest, lowest}
-use Rattle.words.proofs.Bits.{On, on-below}
+use lib.Bits.{bitAnd, and-lt, xor-lt}
+use lib.Count.{trailingZeros, trailing-of-zero, under}
+use lib.Pow.{pow-lt}
+use Rattle.words.specs.Words.{bit, difference, Next}
+use Rattle.words.proofs.Laws.{bit-small, bit-low, bit-half, bit-zero, bit-meet, bit-difference, bit-pow-same, bit-pow-other, ext, Lowest, lowest}
+use Rattle.words.proofs.Bits.{On, empty-off}
 
-bit-shift : (x f l : ℕ) → bit (x / 2 ^ f) l ≡ bit x (f + l)
-unfolding bit
-bit-shift x f l = ap (λ (y : ℕ). y % 2) (shr-shr x f l)
+-- ---- the lowest label
 
-bit-from : (x f m : ℕ) → f ≤ m → bit (x / 2 ^ f) (m - f) ≡ bit x m
-bit-from x f m h = bit-shift x f (m - f) ∙ ap (λ (n : ℕ). bit x n) (omega arith)
+pub next-first : (x r : ℕ) → x < 2 ^ 64 → r ≡ trailingZeros 64 x → Next x 0 r
+next-first zero r h e =
+    let t = trailing-of-zero 64 in
+    record { low = omega arith; high = omega arith; gap = λ m a b. bit-zero m; here = λ l. absurd (omega arith) }
+next-first (suc x) r h e =
+    let w = lowest 64 (suc x) h (omega arith) in
+    rw e (record { low = omega arith; high = omega (arith, w .below); gap = λ m a b. w .least m b; here = λ l. w .«in» })
 
-pub next-end : (x f : ℕ) → f ≤ 64 → 64 ≤ f → Next x f 64
-next-end x f h i = record { low = h; high = omega arith; gap = λ m a b. absurd (omega arith); here = λ l. absurd (omega arith) }
+-- the label of which all lower ones are not there
+trailing-is : (k x l : ℕ) → l < k → On x l → ((m : ℕ) → m < l → bit x m ≡ 0) → trailingZeros k x ≡ l
+unfolding trailingZeros
+trailing-is zero x l h o none = absurd (omega arith)
+trailing-is (suc k) x zero h o none = ap (λ (d : ℕ). under d (trailingZeros k (x / 2))) (sym (bit-low x) ∙ o)
+trailing-is (suc k) x (suc l) h o none =
+    ap (λ (d : ℕ). under d (trailingZeros k (x / 2))) (sym (bit-low x) ∙ none 0 (omega arith))
+    ∙ ap suc (trailing-is k (x / 2) l (omega arith) (sym (bit-half x l) ∙ o) (λ m i. sym (bit-half x m) ∙ none (suc m) (omega arith)))
 
-pub next-none : (x f : ℕ) → f ≤ 64 → x / 2 ^ f ≡ 0 → Next x f 64
-next-none x f h e =
-    record {
-      low = h;
-      high = omega arith;
-      gap = λ m a b. sym (bit-from x f m a) ∙ ap (λ (y : ℕ). bit y (m - f)) e ∙ bit-zero (m - f);
-      here = λ l. absurd (omega arith);
-    }
+-- ---- the word less 1: the lowest label is gone, and those above it are as they were
 
-pub next-found : (x f r : ℕ) → x < 2 ^ 64 → (x / 2 ^ f ≡ 0 → ⊥) → r ≡ trailingZeros 64 (x / 2 ^ f) → Next x f (f + r)
-next-found x f r h d e = go (lowest 64 (x / 2 ^ f) (omega (arith, shr-le x f)) (omega (arith, d)))
+less-here : (x l : ℕ) → On x l → ((m : ℕ) → m < l → bit x m ≡ 0) → bit (x - 1) l ≡ 0
+less-here x zero o none = let e : (x - 1) % 2 ≡ 0 = omega (arith, bit-low x) in bit-low (x - 1) ∙ e
+less-here x (suc l) o none =
+    let e : (x - 1) / 2 ≡ x / 2 - 1 = omega (arith, bit-low x, none 0 (omega arith)) in
+    bit-half (x - 1) l ∙ ap (λ (y : ℕ). bit y l) e
+    ∙ less-here (x / 2) l (sym (bit-half x l) ∙ o) (λ m i. sym (bit-half x m) ∙ none (suc m) (omega arith))
+
+less-above : (x l m : ℕ) → On x l → ((m : ℕ) → m < l → bit x m ≡ 0) → l < m → bit (x - 1) m ≡ bit x m
+less-above x l zero o none h = absurd (omega arith)
+less-above x zero (suc m) o none h =
+    let e : (x - 1) / 2 ≡ x / 2 = omega (arith, bit-low x) in
+    bit-half (x - 1) m ∙ ap (λ (y : ℕ). bit y m) e ∙ sym (bit-half x m)
+less-above x (suc l) (suc m) o none h =
+    let e : (x - 1) / 2 ≡ x / 2 - 1 = omega (arith, bit-low x, none 0 (omega arith)) in
+    bit-half (x - 1) m ∙ ap (λ (y : ℕ). bit y m) e
+    ∙ less-above (x / 2) l m (sym (bit-half x l) ∙ o) (λ k i. sym (bit-half x k) ∙ none (suc k) (omega arith)) (omega arith)
+    ∙ sym (bit-half x m)
+
+-- ---- the word without its lowest label
+
+rest-bit : (x l m : ℕ) → On x l → ((m : ℕ) → m < l → bit x m ≡ 0) → bit (bitAnd x (x - 1)) m ≡ bit (difference x (2 ^ l)) m
+rest-bit x l m o none = bit-meet x (x - 1) m ∙ go (ℕ-discrete m l) (decLt m l) ∙ sym (bit-difference x (2 ^ l) m)
   where
-    go : Lowest (x / 2 ^ f) 64 (trailingZeros 64 (x / 2 ^ f)) → Next x f (f + r)
-    go w =
-        let on : On x (f + r) = sym (bit-shift x f r) ∙ (rw e (w .«in»)) in
-        record {
-          low = omega arith;
-          high = omega (arith, on-below 64 x (f + r) h on);
-          gap = λ m a b. sym (bit-from x f m a) ∙ w .least (m - f) (omega arith);
-          here = λ l. on;
-        }
+    go : Dec (m ≡ l) → Dec (m < l) → min (bit x m) (bit (x - 1) m) ≡ bit x m - bit (2 ^ l) m
+    go (yes e) _ = rw e (omega (arith, o, less-here x l o none, bit-pow-same l))
+    go (no d) (yes h) = omega (arith, none m h)
+    go (no d) (no h) = omega (arith, less-above x l m o none (omega (arith, d, h)), bit-pow-other l m d)
+
+-- what the code's `x & (x - 1)` computes
+pub rest-code : (x : ℕ) → x < 2 ^ 64 → 0 < x → bitAnd x (x - 1) ≡ difference x (2 ^ trailingZeros 64 x)
+unfolding difference
+rest-code x h p =
+    let w = lowest 64 x h p in
+    let single : 2 ^ trailingZeros 64 x < 2 ^ 64 = pow-lt (w .below) in
+    ext 64 _ _ (and-lt 64 x (x - 1) h (omega arith)) (xor-lt 64 x (bitAnd x (2 ^ trailingZeros 64 x)) h (and-lt 64 x _ h single))
+    (λ m i. rest-bit x (trailingZeros 64 x) m (w .«in») (w .least))
+
+rest-low : (x l m : ℕ) → ((m : ℕ) → m < l → bit x m ≡ 0) → m ≤ l → bit (difference x (2 ^ l)) m ≡ 0
+rest-low x l m none h = bit-difference x (2 ^ l) m ∙ go (ℕ-discrete m l)
+  where
+    go : Dec (m ≡ l) → bit x m - bit (2 ^ l) m ≡ 0
+    go (yes e) = rw e (omega (arith, bit-small x l, bit-pow-same l))
+    go (no d) = omega (arith, none m (omega (arith, d)))
+
+rest-high : (x l m : ℕ) → l < m → bit (difference x (2 ^ l)) m ≡ bit x m
+rest-high x l m h = omega (arith, bit-difference x (2 ^ l) m, bit-pow-other l m (λ e. omega arith))
+
+-- ---- the loop
+
+-- The loop stands at l: `rest` has the labels of w from l up, and l is the lowest of them, 64 where there is none.
+pub record Ahead (w l rest : ℕ) : Type 0 where
+  pub high : l ≤ 64
+  pub here : l < 64 → On w l
+  pub none : (m : ℕ) → m < l → bit rest m ≡ 0
+  pub same : (m : ℕ) → l ≤ m → bit rest m ≡ bit w m
+
+pub ahead-first : {w l : ℕ} → Next w 0 l → Ahead w l w
+ahead-first n = record { high = n .high; here = n .here; none = λ m h. n .gap m (omega arith) h; same = λ m h. refl }
+
+some : (x l : ℕ) → On x l → 0 < x
+some zero l o = absurd (empty-off l o)
+some (suc x) l o = omega arith
+
+pub ahead-some : {w l rest : ℕ} → Ahead w l rest → l < 64 → 0 < rest
+ahead-some {w} {l} {rest} a h = some rest l (a .same l (omega arith) ∙ a .here h)
+
+pub ahead-next : {w l rest rest′ l′ : ℕ} → Ahead w l rest → l < 64 → rest′ ≡ difference rest (2 ^ trailingZeros 64 rest) → Next rest′ 0 l′
+    → Next w (l + 1) l′ × Ahead w l′ rest′
+ahead-next {w} {l} {rest} {rest′} {l′} a h e n =
+    (record { low = later; high = n .high; gap = λ m i j. sym (same m i) ∙ n .gap m (omega arith) j; here = here },
+     record { high = n .high; here = here; none = λ m j. n .gap m (omega arith) j; same = λ m i. same m (omega (arith, later)) })
+  where
+    on : On rest l
+    on = a .same l (omega arith) ∙ a .here h
+
+    is : rest′ ≡ difference rest (2 ^ l)
+    is = e ∙ ap (λ (k : ℕ). difference rest (2 ^ k)) (trailing-is 64 rest l h on (a .none))
+
+    same : (m : ℕ) → l + 1 ≤ m → bit rest′ m ≡ bit w m
+    same m i = ap (λ (x : ℕ). bit x m) is ∙ rest-high rest l m (omega arith) ∙ a .same m (omega arith)
+
+    later : l + 1 ≤ l′
+    later = elim (decLt l l′) [ yes i ↦ omega arith | no i ↦ absurd (gone (omega (arith, i))) ]
+      where
+        gone : l′ ≤ l → ⊥
+        gone i = omega (arith, n .here (omega arith), ap (λ (x : ℕ). bit x l′) is, rest-low rest l l′ (a .none) i)
+
+    here : l′ < 64 → On w l′
+    here i = sym (same l′ later) ∙ n .here i

@@ -1,7 +1,7 @@
 // A word as a set of labels: bit l of the word says whether label l is in the set. These are the only functions that touch bits,
 // so that no contract above this crate speaks of shifts.
 ghost use mathlib.Core.Path.{_≡_};
-ghost use Prim.Native.Nat.{_/_, _^_, _<_, _≤_};
+ghost use Prim.Native.Nat.{_/_, _^_, _<_};
 ghost use lib.Bits.{bitAnd};
 ghost use lib.Count.{trailingZeros};
 ghost use Rattle.words.specs.Words.{bit, union, difference, countBelow, Next};
@@ -71,17 +71,17 @@ fn whole(n: u32) -> usize
     n as usize
 }
 
-// The lowest label in the set from label `from` up, 64 where there is none: what a loop over the labels goes by.
-pub fn next(x: u64, from: usize) -> usize
-    requires { ⌜ from ≤ 64 ⌝ }
-    ensures { λ r. ⌜ Next x from r ⌝ }
+// The same as a place.
+pub fn first(x: u64) -> usize
+    ensures { λ r. ⌜ Next x 0 r ⌝ }
 {
-    if 64 <= from {
-        return 64;
-    }
-    let rest = x >> from;
-    if rest == 0 {
-        return 64;
-    }
-    from + whole(lowest(rest))
+    whole(lowest(x))
+}
+
+// The set without its lowest label: a loop over the labels goes from `first` to `first` of this.
+pub fn rest(x: u64) -> u64
+    requires { ⌜ 0 < x ⌝ }
+    ensures { λ r. ⌜ r ≡ difference x (2 ^ trailingZeros 64 x) ⌝ }
+{
+    x & (x - 1)
 }
