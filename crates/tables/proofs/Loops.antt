@@ -31,7 +31,7 @@ labels-next w from r n =
     let e : from + (r - from) ≡ r = omega (arith, n .low) in
     ap (λ (k : ℕ). labels k w) (sym e) ∙ labels-passed w from (r - from) (λ m a b. n .gap m a (omega arith))
 
--- ---- sweeps: `while l < 64 { .. l ..; l = next(w, l + 1); }`
+-- ---- sweeps: from label l to the next, r
 
 pub each-first : {k : ℕ → Rule} {t : Table} (w r : ℕ) → Next w 0 r → Sweeps 64 (over (labels r w) k) t t false
 each-first w r n = rw (labels-next w 0 r n, labels-none) over-none

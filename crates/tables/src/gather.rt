@@ -10,10 +10,12 @@ pub fn gather(t: &[u64], ls: u64, base: usize) -> u64
     ensures { λ r. ⌜ Gathered (now (t .entry)) ls base r ⌝ }
 {
     let mut all: u64 = 0;
-    let mut l = words::next(ls, 0);
+    let mut rest = ls;
+    let mut l = words::first(rest);
     while l < 64 {
         all = words::join(all, t[base + l]);
-        l = words::next(ls, l + 1);
+        rest = words::rest(rest);
+        l = words::first(rest);
     }
     all
 }
@@ -24,11 +26,13 @@ pub fn properties(t: &[u64], ms: u64, names: u64) -> u64
     ensures { λ r. ⌜ Properties (now (t .entry)) ms names r ⌝ }
 {
     let mut all: u64 = 0;
-    let mut m = words::next(ms, 0);
+    let mut rest = ms;
+    let mut m = words::first(rest);
     while m < 64 {
         let some = gather(t, names, 256 + 32 * m);
         all = words::join(all, some);
-        m = words::next(ms, m + 1);
+        rest = words::rest(rest);
+        m = words::first(rest);
     }
     all
 }

@@ -49,11 +49,13 @@ pub fn include_names(t: &mut [u64], row: usize, names: u64, x: usize) -> bool
     ensures { λ r. ⌜ Sweeps 64 (over (labels 64 names) (λ n. include (variable (row + n)) (variable x))) (now (t .entry)) (now (t .exit)) r ⌝ }
 {
     let mut grew = false;
-    let mut n = words::next(names, 0);
+    let mut rest = names;
+    let mut n = words::first(rest);
     while n < 64 {
         let more = include_row(t, row + n, x);
         grew = grew | more;
-        n = words::next(names, n + 1);
+        rest = words::rest(rest);
+        n = words::first(rest);
     }
     grew
 }

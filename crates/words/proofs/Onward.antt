@@ -1,5 +1,6 @@
--- Loops over the labels of a word, `let mut rest = w; let mut l = first(rest); while l < 64 { .. l ..; rest = rest(rest); l = first(rest); }`:
--- the lowest label, and the word without it. Assumes nothing.
+-- The lowest label of a word, the word without it, and loops that go on with that:
+-- `let mut rest = w; let mut l = words::first(rest); while l < 64 { .. l ..; rest = words::rest(rest); l = words::first(rest); }`.
+-- Assumes nothing.
 use mathlib.Core.Path.{_≡_, refl, ap, sym, _∙_}
 use Prim.Native.Nat.{ℕ, zero, suc, _+_, _-_, _/_, _%_, _^_, _≤_, _<_, min}
 use native.Mathlib.Decide.{ℕ-discrete, decLt}
@@ -8,10 +9,14 @@ use lib.Bits.{bitAnd, and-lt, xor-lt}
 use lib.Count.{trailingZeros, trailing-of-zero, under}
 use lib.Pow.{pow-lt}
 use Rattle.words.specs.Words.{bit, difference, Next}
-use Rattle.words.proofs.Laws.{bit-small, bit-low, bit-half, bit-zero, bit-meet, bit-difference, bit-pow-same, bit-pow-other, ext, Lowest, lowest}
+use Rattle.words.proofs.Laws.{bit-small, bit-low, bit-half, bit-zero, bit-meet, bit-difference, bit-pow-same, bit-pow-other, ext, lowest}
 use Rattle.words.proofs.Bits.{On, empty-off}
 
 -- ---- the lowest label
+
+-- no label below l is in x
+abbrev pub NoneBelow : ℕ → ℕ → Type 0
+NoneBelow x l = (m : ℕ) → m < l → bit x m ≡ 0
 
 pub next-first : (x r : ℕ) → x < 2 ^ 64 → r ≡ trailingZeros 64 x → Next x 0 r
 next-first zero r h e =
@@ -21,8 +26,7 @@ next-first (suc x) r h e =
     let w = lowest 64 (suc x) h (omega arith) in
     rw e (record { low = omega arith; high = omega (arith, w .below); gap = λ m a b. w .least m b; here = λ l. w .«in» })
 
--- the label of which all lower ones are not there
-trailing-is : (k x l : ℕ) → l < k → On x l → ((m : ℕ) → m < l → bit x m ≡ 0) → trailingZeros k x ≡ l
+trailing-is : (k x l : ℕ) → l < k → On x l → NoneBelow x l → trailingZeros k x ≡ l
 unfolding trailingZeros
 trailing-is zero x l h o none = absurd (omega arith)
 trailing-is (suc k) x zero h o none = ap (λ (d : ℕ). under d (trailingZeros k (x / 2))) (sym (bit-low x) ∙ o)
@@ -32,14 +36,14 @@ trailing-is (suc k) x (suc l) h o none =
 
 -- ---- the word less 1: the lowest label is gone, and those above it are as they were
 
-less-here : (x l : ℕ) → On x l → ((m : ℕ) → m < l → bit x m ≡ 0) → bit (x - 1) l ≡ 0
+less-here : (x l : ℕ) → On x l → NoneBelow x l → bit (x - 1) l ≡ 0
 less-here x zero o none = let e : (x - 1) % 2 ≡ 0 = omega (arith, bit-low x) in bit-low (x - 1) ∙ e
 less-here x (suc l) o none =
     let e : (x - 1) / 2 ≡ x / 2 - 1 = omega (arith, bit-low x, none 0 (omega arith)) in
     bit-half (x - 1) l ∙ ap (λ (y : ℕ). bit y l) e
     ∙ less-here (x / 2) l (sym (bit-half x l) ∙ o) (λ m i. sym (bit-half x m) ∙ none (suc m) (omega arith))
 
-less-above : (x l m : ℕ) → On x l → ((m : ℕ) → m < l → bit x m ≡ 0) → l < m → bit (x - 1) m ≡ bit x m
+less-above : (x l m : ℕ) → On x l → NoneBelow x l → l < m → bit (x - 1) m ≡ bit x m
 less-above x l zero o none h = absurd (omega arith)
 less-above x zero (suc m) o none h =
     let e : (x - 1) / 2 ≡ x / 2 = omega (arith, bit-low x) in
@@ -52,7 +56,7 @@ less-above x (suc l) (suc m) o none h =
 
 -- ---- the word without its lowest label
 
-rest-bit : (x l m : ℕ) → On x l → ((m : ℕ) → m < l → bit x m ≡ 0) → bit (bitAnd x (x - 1)) m ≡ bit (difference x (2 ^ l)) m
+rest-bit : (x l m : ℕ) → On x l → NoneBelow x l → bit (bitAnd x (x - 1)) m ≡ bit (difference x (2 ^ l)) m
 rest-bit x l m o none = bit-meet x (x - 1) m ∙ go (ℕ-discrete m l) (decLt m l) ∙ sym (bit-difference x (2 ^ l) m)
   where
     go : Dec (m ≡ l) → Dec (m < l) → min (bit x m) (bit (x - 1) m) ≡ bit x m - bit (2 ^ l) m
@@ -69,7 +73,7 @@ rest-code x h p =
     ext 64 _ _ (and-lt 64 x (x - 1) h (omega arith)) (xor-lt 64 x (bitAnd x (2 ^ trailingZeros 64 x)) h (and-lt 64 x _ h single))
     (λ m i. rest-bit x (trailingZeros 64 x) m (w .«in») (w .least))
 
-rest-low : (x l m : ℕ) → ((m : ℕ) → m < l → bit x m ≡ 0) → m ≤ l → bit (difference x (2 ^ l)) m ≡ 0
+rest-low : (x l m : ℕ) → NoneBelow x l → m ≤ l → bit (difference x (2 ^ l)) m ≡ 0
 rest-low x l m none h = bit-difference x (2 ^ l) m ∙ go (ℕ-discrete m l)
   where
     go : Dec (m ≡ l) → bit x m - bit (2 ^ l) m ≡ 0
@@ -85,7 +89,7 @@ rest-high x l m h = omega (arith, bit-difference x (2 ^ l) m, bit-pow-other l m 
 pub record Ahead (w l rest : ℕ) : Type 0 where
   pub high : l ≤ 64
   pub here : l < 64 → On w l
-  pub none : (m : ℕ) → m < l → bit rest m ≡ 0
+  pub none : NoneBelow rest l
   pub same : (m : ℕ) → l ≤ m → bit rest m ≡ bit w m
 
 pub ahead-first : {w l : ℕ} → Next w 0 l → Ahead w l w
@@ -98,26 +102,39 @@ some (suc x) l o = omega arith
 pub ahead-some : {w l rest : ℕ} → Ahead w l rest → l < 64 → 0 < rest
 ahead-some {w} {l} {rest} a h = some rest l (a .same l (omega arith) ∙ a .here h)
 
-pub ahead-next : {w l rest rest′ l′ : ℕ} → Ahead w l rest → l < 64 → rest′ ≡ difference rest (2 ^ trailingZeros 64 rest) → Next rest′ 0 l′
-    → Next w (l + 1) l′ × Ahead w l′ rest′
-ahead-next {w} {l} {rest} {rest′} {l′} a h e n =
-    (record { low = later; high = n .high; gap = λ m i j. sym (same m i) ∙ n .gap m (omega arith) j; here = here },
-     record { high = n .high; here = here; none = λ m j. n .gap m (omega arith) j; same = λ m i. same m (omega (arith, later)) })
+-- one turn, from l to r
+pub record Turn (w l rest r : ℕ) : Type 0 where
+  pub on : On w l
+  pub next : Next w (l + 1) r
+  pub ahead : Ahead w r rest
+
+pub ahead-next : {w l r rest left : ℕ} → Ahead w l rest → l < 64 → left ≡ difference rest (2 ^ trailingZeros 64 rest) → Next left 0 r
+    → Turn w l left r
+ahead-next {w} {l} {r} {rest} {left} a h e n =
+    record {
+      on = a .here h;
+      next = record { low = later; high = n .high; gap = λ m i j. sym (same m i) ∙ n .gap m (omega arith) j; here = here };
+      ahead = record { high = n .high; here = here; none = λ m j. n .gap m (omega arith) j; same = λ m i. same m (omega (arith, later)) };
+    }
   where
-    on : On rest l
-    on = a .same l (omega arith) ∙ a .here h
+    lowest-on : On rest l
+    lowest-on = a .same l (omega arith) ∙ a .here h
 
-    is : rest′ ≡ difference rest (2 ^ l)
-    is = e ∙ ap (λ (k : ℕ). difference rest (2 ^ k)) (trailing-is 64 rest l h on (a .none))
+    is : left ≡ difference rest (2 ^ l)
+    is = e ∙ ap (λ (k : ℕ). difference rest (2 ^ k)) (trailing-is 64 rest l h lowest-on (a .none))
 
-    same : (m : ℕ) → l + 1 ≤ m → bit rest′ m ≡ bit w m
+    same : (m : ℕ) → l + 1 ≤ m → bit left m ≡ bit w m
     same m i = ap (λ (x : ℕ). bit x m) is ∙ rest-high rest l m (omega arith) ∙ a .same m (omega arith)
 
-    later : l + 1 ≤ l′
-    later = elim (decLt l l′) [ yes i ↦ omega arith | no i ↦ absurd (gone (omega (arith, i))) ]
+    later : l + 1 ≤ r
+    later = elim (decLt l r) [ yes i ↦ omega arith | no i ↦ absurd (gone (omega (arith, i))) ]
       where
-        gone : l′ ≤ l → ⊥
-        gone i = omega (arith, n .here (omega arith), ap (λ (x : ℕ). bit x l′) is, rest-low rest l l′ (a .none) i)
+        gone : r ≤ l → ⊥
+        gone i = omega (arith, n .here (omega arith), ap (λ (x : ℕ). bit x r) is, rest-low rest l r (a .none) i)
 
-    here : l′ < 64 → On w l′
-    here i = sym (same l′ later) ∙ n .here i
+    here : r < 64 → On w r
+    here i = sym (same r later) ∙ n .here i
+
+pub ahead-less : {w l r rest left : ℕ} → Ahead w l rest → l < 64 → left ≡ difference rest (2 ^ trailingZeros 64 rest) → Next left 0 r
+    → 64 - r < 64 - l
+ahead-less a h e n = omega (arith, ahead-next a h e n .next .low)

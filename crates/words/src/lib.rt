@@ -58,6 +58,12 @@ pub fn size(x: u64) -> u32
     u64::count_ones(x)
 }
 
+fn whole(n: u32) -> usize
+    ensures { λ r. ⌜ r ≡ n ⌝ }
+{
+    n as usize
+}
+
 // The lowest label in the set, 64 where it is empty.
 pub fn lowest(x: u64) -> u32
     ensures { λ r. ⌜ r ≡ trailingZeros 64 x ⌝ }
@@ -65,20 +71,14 @@ pub fn lowest(x: u64) -> u32
     u64::trailing_zeros(x)
 }
 
-fn whole(n: u32) -> usize
-    ensures { λ r. ⌜ r ≡ n ⌝ }
-{
-    n as usize
-}
-
-// The same as a place.
+// The same, as a loop over the labels needs it.
 pub fn first(x: u64) -> usize
     ensures { λ r. ⌜ Next x 0 r ⌝ }
 {
     whole(lowest(x))
 }
 
-// The set without its lowest label: a loop over the labels goes from `first` to `first` of this.
+// The set without its lowest label: what such a loop goes on with.
 pub fn rest(x: u64) -> u64
     requires { ⌜ 0 < x ⌝ }
     ensures { λ r. ⌜ r ≡ difference x (2 ^ trailingZeros 64 x) ⌝ }
