@@ -29,12 +29,14 @@ pub fn look(t: &[u64], last: &[u64; 38], chains: u64, fresh: u64, stirred: u64, 
 {
     let mut all = properties(t, fresh, names);
     let ms = words::meet(words::without(chains, fresh), stirred);
-    let mut m = words::next(ms, 0);
+    let mut rest = ms;
+    let mut m = words::first(rest);
     while m < 64 {
         let grown = words::meet(names, words::above(last[4 + m / 2], 32 * (m % 2)));
         let some = gather(t, grown, 256 + 32 * m);
         all = words::join(all, some);
-        m = words::next(ms, m + 1);
+        rest = words::rest(rest);
+        m = words::first(rest);
     }
     all
 }
