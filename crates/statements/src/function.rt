@@ -29,11 +29,13 @@ fn hand(t: &mut [u64], formals: &[u8; 448], fs: u64, j: usize, x: usize) -> bool
     ensures { λ r. ⌜ Sweeps 64 (over (labels 64 fs) (λ f. include (variable (formal (now (formals .entry)) f j)) (variable x))) (now (t .entry)) (now (t .exit)) r ⌝ }
 {
     let mut grew = false;
-    let mut f = words::next(fs, 0);
+    let mut rest = fs;
+    let mut f = words::first(rest);
     while f < 64 {
         let more = include_row(t, wide(formals[7 * f + j]), x);
         grew = grew | more;
-        f = words::next(fs, f + 1);
+        rest = words::rest(rest);
+        f = words::first(rest);
     }
     grew
 }

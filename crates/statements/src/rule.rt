@@ -116,11 +116,13 @@ fn store_all(
 {
     let w = t[x];
     let mut grew = false;
-    let mut l = words::next(w, 0);
+    let mut rest = w;
+    let mut l = words::first(rest);
     while l < 64 {
         let more = store_at(t, full, flags[l], l, names, a);
         grew = grew | more;
-        l = words::next(w, l + 1);
+        rest = words::rest(rest);
+        l = words::first(rest);
     }
     grew
 }

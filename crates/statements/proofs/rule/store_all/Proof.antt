@@ -3,11 +3,12 @@ use Rattle.program.specs.Program.{namesOf}
 use borrow.Author.Needs.{needs}
 use mathlib.Core.Path.{_≡_, refl, _∙_}
 use mathlib.Core.Bool.{not}
-use Prim.Native.Nat.{ℕ, _-_, _≤_, _<_}
+use Prim.Native.Nat.{ℕ, _-_, _<_}
 use native.Mathlib.Omega.{arith}
 use lib.ListN.{length, getD}
 use lib.Dec.{eqb}
 use Rattle.words.proofs.Bits.{On}
+use Rattle.words.proofs.Onward.{Ahead, ahead-first, ahead-some, ahead-next, ahead-less}
 use Rattle.rows.specs.Row.{variable, property}
 use Rattle.rules.specs.Rule.{include, over, when}
 use Rattle.rules.specs.Round.{labels}
@@ -20,14 +21,14 @@ use Rattle.statements.proofs.rule.store_all.Statement.{statement}
 use Rattle.statements.proofs.rule.store_all.Tie as tie
 
 abbrev Inv-loop : tie.InvT-loop
-Inv-loop t₀ full₀ flags names x a w grew₀ l₀ t full grew l =
-    (length t ≡ length t₀) × (length full ≡ 64) × (l ≤ 64) × (l < 64 → On w l)
+Inv-loop t₀ full₀ flags names x a w grew₀ rest₀ l₀ t full grew rest l =
+    (length t ≡ length t₀) × (length full ≡ 64) × Ahead w l rest
     × (Full t₀ full₀ → ((n : ℕ) → On names n → n < 32)
     → Sweeps 64 (over (labels l w) (λ m. when (not (eqb (getD flags m 0) 1)) (over (labels 64 names) (λ n. include (property m n) (variable a))))) t₀ t grew
     × Full t full)
 
 abbrev μ-loop : tie.MeasureT-loop
-μ-loop t₀ full₀ flags names x a w grew₀ l₀ t full grew l = 64 - l
+μ-loop t₀ full₀ flags names x a w grew₀ rest₀ l₀ t full grew rest l = 64 - l
 
 mul-w : tie.Need-mul-w Inv-loop μ-loop
 mul-w c = search needs
@@ -35,11 +36,11 @@ mul-w c = search needs
 slice-read-w : tie.Need-slice-read-w Inv-loop μ-loop
 slice-read-w c = search needs
 
-next-requires : tie.Need-next-requires Inv-loop μ-loop
-next-requires c κs = search needs
+first-requires : tie.Need-first-requires Inv-loop μ-loop
+first-requires c κs = search needs
 
 loop-holds : tie.Need-loop-holds Inv-loop μ-loop
-loop-holds c = let n = c .next .ensures in (refl, c .before .before .before .pre .3, n .high, n .here, λ f below. (each-first _ _ n, f))
+loop-holds c = let n = c .first .ensures in (refl, c .before .before .before .pre .3, ahead-first n, λ f below. (each-first _ _ n, f))
 
 element-copy-out-store-at : tie.Need-element-copy-out-store-at Inv-loop μ-loop
 element-copy-out-store-at c = search needs
@@ -47,28 +48,28 @@ element-copy-out-store-at c = search needs
 store-at-requires : tie.Need-store-at-requires Inv-loop μ-loop
 store-at-requires c κs = search needs
 
-add-next : tie.Need-add-next Inv-loop μ-loop
-add-next c = search needs
+rest-requires : tie.Need-rest-requires Inv-loop μ-loop
+rest-requires c κs = search (needs, ahead-some)
 
-next-requires-2 : tie.Need-next-requires-2 Inv-loop μ-loop
-next-requires-2 c κs = search needs
+first-requires-2 : tie.Need-first-requires-2 Inv-loop μ-loop
+first-requires-2 c κs = search needs
 
 loop-less : tie.Need-loop-less Inv-loop μ-loop
-loop-less c = search needs
+loop-less c = search (needs, ahead-less)
 
 loop-again : tie.Need-loop-again Inv-loop μ-loop
 loop-again c =
-    let at = c .before .before .before in
-    let r = at .before .before .before .before .before .loop in
-    let n = c .next2 .ensures in (
+    let at = c .before .before .before .before in
+    let in-loop = at .before .before .before .before in
+    let r = in-loop .before .loop in
+    let n = ahead-next (r .inv .2) (in-loop .loop-test .taken) (c .before .rest .ensures) (c .first2 .ensures) in (
       at .store-at .kept .0 ∙ r .inv .0,
       at .store-at .ensures .1,
-      n .high,
-      n .here,
+      n .ahead,
       λ f below.
-          let so-far = r .inv .4 f below in
+          let so-far = r .inv .3 f below in
           let one-more = at .store-at .ensures .0 (so-far .1) below in
-          (each-next _ _ _ (r .inv .3 (at .before .before .before .before .loop-test .taken)) n (so-far .0) (one-more .0), one-more .1),
+          (each-next _ _ _ (n .on) (n .next) (so-far .0) (one-more .0), one-more .1),
     )
 
 same-length : tie.Need-same-length Inv-loop μ-loop
@@ -82,7 +83,7 @@ returns c =
     let e : c .before .loop .l ≡ 64 = omega arith in
     let inv = c .before .loop .inv in (
       λ p key flags k listed f.
-          let done = inv .4 f (λ n o. names-below p key k n (listed .source n o)) in (
+          let done = inv .3 f (λ n o. names-below p key k n (listed .source n o)) in (
             store-named p (a .x) key (a .a) (a .names) listed (search needs)
                 (rw flags (each-end (variable (a .x)) (λ i. start .slice-known .given i .fits) (rw e at (done .0)))),
             done .1,
@@ -98,12 +99,12 @@ store-all-spec =
     μ-loop
     mul-w
     slice-read-w
-    next-requires
+    first-requires
     loop-holds
     element-copy-out-store-at
     store-at-requires
-    add-next
-    next-requires-2
+    rest-requires
+    first-requires-2
     loop-less
     loop-again
     same-length
