@@ -12,7 +12,7 @@ use Rattle.rules.proofs.Find.{finds-over-none, finds-each-on, finds-none}
 use Rattle.tables.proofs.Loops.{labels-next}
 use mathlib.Core.Bool.{Bool, true, false}
 
--- `while l < 64 { .. l ..; l = next(w, l + 1); }`
+-- from label l to the next, r
 pub each-first : {k : ℕ → Rule} {t : Table} {a : ℕ} (w r : ℕ) → Next w 0 r → Finds 64 t (over (labels r w) k) a a
 each-first w r n = rw (labels-next w 0 r n, labels-none) finds-over-none
 

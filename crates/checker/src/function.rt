@@ -78,10 +78,12 @@ pub fn call<'a>(
 {
     let fs = callees[callee];
     let mut best = low;
-    let mut f = words::next(fs, 0);
+    let mut rest = fs;
+    let mut f = words::first(rest);
     while f < 64 {
         best = enter(t, d, formals, this, args, f, best);
-        f = words::next(fs, f + 1);
+        rest = words::rest(rest);
+        f = words::first(rest);
     }
     let back = pick(handed, fs, 0);
     let out = gather(t, d, fs, 2368);

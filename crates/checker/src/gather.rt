@@ -17,10 +17,12 @@ pub fn gather(t: &[u64], d: u64, ls: u64, base: usize) -> u64
     ensures { λ r. ⌜ Gathered (seen d (now (t .entry))) ls base r ⌝ }
 {
     let mut all: u64 = 0;
-    let mut l = words::next(ls, 0);
+    let mut rest = ls;
+    let mut l = words::first(rest);
     while l < 64 {
         all = words::join(all, row_at(t, d, base + l));
-        l = words::next(ls, l + 1);
+        rest = words::rest(rest);
+        l = words::first(rest);
     }
     all
 }
@@ -31,11 +33,13 @@ pub fn properties(t: &[u64], d: u64, ms: u64, names: u64) -> u64
     ensures { λ r. ⌜ Properties (seen d (now (t .entry))) ms names r ⌝ }
 {
     let mut all: u64 = 0;
-    let mut m = words::next(ms, 0);
+    let mut rest = ms;
+    let mut m = words::first(rest);
     while m < 64 {
         let some = gather(t, d, names, 256 + 32 * m);
         all = words::join(all, some);
-        m = words::next(ms, m + 1);
+        rest = words::rest(rest);
+        m = words::first(rest);
     }
     all
 }
@@ -46,10 +50,12 @@ pub fn pick(kept: &[u64], ls: u64, at: usize) -> u64
     ensures { λ r. ⌜ Gathered (now (kept .entry)) ls at r ⌝ }
 {
     let mut all: u64 = 0;
-    let mut l = words::next(ls, 0);
+    let mut rest = ls;
+    let mut l = words::first(rest);
     while l < 64 {
         all = words::join(all, kept[at + l]);
-        l = words::next(ls, l + 1);
+        rest = words::rest(rest);
+        l = words::first(rest);
     }
     all
 }
@@ -60,10 +66,12 @@ pub fn under_name(t: &[u64], d: u64, ms: u64, n: usize) -> u64
     ensures { λ r. ⌜ Under (seen d (now (t .entry))) ms (n ∷ []) r ⌝ }
 {
     let mut all: u64 = 0;
-    let mut m = words::next(ms, 0);
+    let mut rest = ms;
+    let mut m = words::first(rest);
     while m < 64 {
         all = words::join(all, row_at(t, d, 256 + 32 * m + n));
-        m = words::next(ms, m + 1);
+        rest = words::rest(rest);
+        m = words::first(rest);
     }
     all
 }

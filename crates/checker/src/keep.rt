@@ -52,10 +52,12 @@ fn common(t: &[u64], d: u64, ls: u64, base: usize) -> u64
     ensures { λ r. ⌜ (Common (seen d (now (t .entry))) ls base r) ⌝ }
 {
     let mut all: u64 = d;
-    let mut l = words::next(ls, 0);
+    let mut rest = ls;
+    let mut l = words::first(rest);
     while l < 64 {
         all = words::meet(all, row_at(t, d, base + l));
-        l = words::next(ls, l + 1);
+        rest = words::rest(rest);
+        l = words::first(rest);
     }
     all
 }
@@ -102,10 +104,12 @@ fn functions_of(types: &[u8; 64], w: u64) -> u64
     ensures { λ r. ⌜ Exact (λ f. (bit w f ≡ 1) × (getD (now (types .entry)) f 0 ≡ 2)) r ⌝ }
 {
     let mut fs: u64 = 0;
-    let mut f = words::next(w, 0);
+    let mut rest = w;
+    let mut f = words::first(rest);
     while f < 64 {
         fs = words::join(fs, function_word(types[f], f));
-        f = words::next(w, f + 1);
+        rest = words::rest(rest);
+        f = words::first(rest);
     }
     fs
 }
@@ -161,10 +165,12 @@ fn look_this(t: &[u64], d: u64, formals: &[u8; 448], fs: u64, x: usize, low: usi
     ensures { λ r. ⌜ Finds 64 (seen d (now (t .entry))) (over (labels 64 fs) (λ f. include (variable (getD (now (formals .entry)) (7 * f) 0)) (variable x))) low r ⌝ }
 {
     let mut best = low;
-    let mut f = words::next(fs, 0);
+    let mut rest = fs;
+    let mut f = words::first(rest);
     while f < 64 {
         best = look_include(t, d, wide(formals[7 * f]), x, best);
-        f = words::next(fs, f + 1);
+        rest = words::rest(rest);
+        f = words::first(rest);
     }
     best
 }

@@ -50,10 +50,12 @@ pub fn look_names(t: &[u64], d: u64, row: usize, names: u64, x: usize, low: usiz
     ensures { λ r. ⌜ Finds 64 (seen d (now (t .entry))) (over (labels 64 names) (λ n. include (variable (row + n)) (variable x))) low r ⌝ }
 {
     let mut best = low;
-    let mut n = words::next(names, 0);
+    let mut rest = names;
+    let mut n = words::first(rest);
     while n < 64 {
         best = look_include(t, d, row + n, x, best);
-        n = words::next(names, n + 1);
+        rest = words::rest(rest);
+        n = words::first(rest);
     }
     best
 }

@@ -115,11 +115,13 @@ pub fn store<'a>(
     let names = names_at(words, key);
     let w = row_at(t, d, x);
     let mut best = low;
-    let mut l = words::next(w, 0);
+    let mut rest = w;
+    let mut l = words::first(rest);
     while l < 64 {
         let common = common_at(t, d, words, meets, key, l);
         best = store_at(t, d, flags[l], l, names, common, a, best);
-        l = words::next(w, l + 1);
+        rest = words::rest(rest);
+        l = words::first(rest);
     }
     best
 }

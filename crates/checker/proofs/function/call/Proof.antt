@@ -2,10 +2,10 @@
 use borrow.Author.Needs.{needs}
 use mathlib.Core.Path.{_≡_, ap, _∙_}
 use mathlib.Core.List.{[]}
-use Prim.Native.Nat.{ℕ, _+_, _-_, _≤_, _<_}
+use Prim.Native.Nat.{ℕ, _+_, _-_}
 use native.Mathlib.Omega.{arith}
 use lib.ListN.{getD}
-use Rattle.words.proofs.Bits.{On}
+use Rattle.words.proofs.Onward.{Ahead, ahead-first, ahead-some, ahead-next, ahead-less}
 use Rattle.rows.specs.Row.{variable}
 use Rattle.rules.specs.Rule.{include, over, _also_}
 use Rattle.rules.specs.Round.{labels}
@@ -22,13 +22,13 @@ use Rattle.checker.proofs.function.call.Statement.{statement}
 use Rattle.checker.proofs.function.call.Tie as tie
 
 abbrev Inv-loop : tie.InvT-loop
-Inv-loop t d types formals returned callees handed k y callee this args low fs best₀ f₀ best f =
-    (f ≤ 64) × (f < 64 → On fs f)
+Inv-loop t d types formals returned callees handed k y callee this args low fs best₀ rest₀ f₀ best rest f =
+    Ahead fs f rest
     × Finds 64 (seen d t) (over (labels f fs) (λ g. include (variable (thisOf (desk [] [] formals [] [] .sheet) g)) (variable this)
     also passing (desk [] [] formals [] []) (formalsOf (desk [] [] formals [] [] .sheet) g) args)) low best
 
 abbrev μ-loop : tie.MeasureT-loop
-μ-loop t d types formals returned callees handed k y callee this args low fs best₀ f₀ best f = 64 - f
+μ-loop t d types formals returned callees handed k y callee this args low fs best₀ rest₀ f₀ best rest f = 64 - f
 
 mul-fs : tie.Need-mul-fs Inv-loop μ-loop
 mul-fs c = search needs
@@ -36,29 +36,30 @@ mul-fs c = search needs
 element-copy-out-fs : tie.Need-element-copy-out-fs Inv-loop μ-loop
 element-copy-out-fs c = search needs
 
-next-requires : tie.Need-next-requires Inv-loop μ-loop
-next-requires c κs = search needs
+first-requires : tie.Need-first-requires Inv-loop μ-loop
+first-requires c κs = search needs
 
 loop-holds : tie.Need-loop-holds Inv-loop μ-loop
-loop-holds c = let n = c .next .ensures in (n .high, n .here, each-first _ _ n)
+loop-holds c = let n = c .first .ensures in (ahead-first n, each-first _ _ n)
 
 enter-requires : tie.Need-enter-requires Inv-loop μ-loop
 enter-requires c κs = search needs
 
-add-next : tie.Need-add-next Inv-loop μ-loop
-add-next c = search needs
+rest-requires : tie.Need-rest-requires Inv-loop μ-loop
+rest-requires c κs = search (needs, ahead-some)
 
-next-requires-2 : tie.Need-next-requires-2 Inv-loop μ-loop
-next-requires-2 c κs = search needs
+first-requires-2 : tie.Need-first-requires-2 Inv-loop μ-loop
+first-requires-2 c κs = search needs
 
 loop-less : tie.Need-loop-less Inv-loop μ-loop
-loop-less c = search needs
+loop-less c = search (needs, ahead-less)
 
 loop-again : tie.Need-loop-again Inv-loop μ-loop
 loop-again c =
-    let r = c .before .before .before .loop in
-    let n = c .next2 .ensures in
-    (n .high, n .here, each-next _ _ _ (r .inv .1 (c .before .before .loop-test .taken)) n (r .inv .2) (c .before .enter .ensures))
+    let at = c .before .before .before in
+    let r = at .before .loop in
+    let n = ahead-next (r .inv .0) (at .loop-test .taken) (c .before .rest .ensures) (c .first2 .ensures) in
+    (n .ahead, each-next _ _ _ (n .on) (n .next) (r .inv .1) (c .before .before .enter .ensures))
 
 pick-requires : tie.Need-pick-requires Inv-loop μ-loop
 pick-requires c κs = search needs
@@ -85,11 +86,11 @@ returns c =
     let out = c .before .before .gather in
     let back = c .before .before .before .pick in
     let r = c .before .before .before .before .before .before .loop in
-    let e : r .f ≡ 64 = omega (arith, c .before .before .before .before .before .loop-test .left, r .inv .0) in
+    let e : r .f ≡ 64 = omega (arith, c .before .before .before .before .before .loop-test .left, r .inv .0 .high) in
     finds-equal (c .look-word2 .ensures ∙ ap (λ (z : ℕ). lower (grows (2368 + a .k) (out .result) t) (2368 + a .k) z) (c .before .look-word .ensures))
     (call-finds (desk (a .types .now) [] (a .formals .now) [] (a .returned .now)) t (a .k) (a .y) (a .callee) (a .this) (a .args .now) fs (back .result)
     (out .result) (seen-small (a .d) (a .t .now) (b .fits .d .fits)) (b .pre .8 (a .callee) (b .pre .3)) (a .handed .now) (a .low) (r .best)
-    (search needs) (search needs) (b .pre .7) (back .ensures) (out .ensures) (rw e at (r .inv .2)))
+    (search needs) (search needs) (b .pre .7) (back .ensures) (out .ensures) (rw e at (r .inv .1)))
 
 pub call-spec : {M : Type 1} → statement M
 call-spec =
@@ -99,11 +100,11 @@ call-spec =
     μ-loop
     mul-fs
     element-copy-out-fs
-    next-requires
+    first-requires
     loop-holds
     enter-requires
-    add-next
-    next-requires-2
+    rest-requires
+    first-requires-2
     loop-less
     loop-again
     pick-requires

@@ -1,7 +1,8 @@
 -- The union of properties: the invariant is that it is that of the labels below m. Assumes nothing.
 use borrow.Author.Needs.{needs}
-use Prim.Native.Nat.{ℕ, _+_, _*_, _-_, _≤_, _<_}
+use Prim.Native.Nat.{ℕ, _+_, _*_, _-_}
 use Rattle.words.proofs.Bits.{On}
+use Rattle.words.proofs.Onward.{Ahead, ahead-first, ahead-some, ahead-next, ahead-less}
 use Rattle.rules.specs.Table.{Has}
 use Rattle.tables.proofs.Loops.{Unions, unions-first, unions-next, unions-end}
 use Rattle.checker.specs.Seen.{seen}
@@ -9,16 +10,16 @@ use Rattle.checker.proofs.gather.properties.Statement.{statement}
 use Rattle.checker.proofs.gather.properties.Tie as tie
 
 abbrev Inv-loop : tie.InvT-loop
-Inv-loop t d ms names all₀ m₀ all m = (m ≤ 64) × (m < 64 → On ms m) × Unions (λ k x. (n : ℕ) × On names n × Has (seen d t) (256 + 32 * k + n) x) ms m all
+Inv-loop t d ms names all₀ rest₀ m₀ all rest m = Ahead ms m rest × Unions (λ k x. (n : ℕ) × On names n × Has (seen d t) (256 + 32 * k + n) x) ms m all
 
 abbrev μ-loop : tie.MeasureT-loop
-μ-loop t d ms names all₀ m₀ all m = 64 - m
+μ-loop t d ms names all₀ rest₀ m₀ all rest m = 64 - m
 
-next-requires : tie.Need-next-requires Inv-loop μ-loop
-next-requires c κs = search needs
+first-requires : tie.Need-first-requires Inv-loop μ-loop
+first-requires c κs = search needs
 
 loop-holds : tie.Need-loop-holds Inv-loop μ-loop
-loop-holds c = let n = c .next .ensures in (n .high, n .here, unions-first n)
+loop-holds c = let n = c .first .ensures in (ahead-first n, unions-first n)
 
 mul-gather : tie.Need-mul-gather Inv-loop μ-loop
 mul-gather c = search needs
@@ -32,29 +33,29 @@ gather-requires c κs = search needs
 join-requires : tie.Need-join-requires Inv-loop μ-loop
 join-requires c κs = search needs
 
-add-next : tie.Need-add-next Inv-loop μ-loop
-add-next c = search needs
+rest-requires : tie.Need-rest-requires Inv-loop μ-loop
+rest-requires c κs = search (needs, ahead-some)
 
-next-requires-2 : tie.Need-next-requires-2 Inv-loop μ-loop
-next-requires-2 c κs = search needs
+first-requires-2 : tie.Need-first-requires-2 Inv-loop μ-loop
+first-requires-2 c κs = search needs
 
 loop-less : tie.Need-loop-less Inv-loop μ-loop
-loop-less c = search needs
+loop-less c = search (needs, ahead-less)
 
 loop-again : tie.Need-loop-again Inv-loop μ-loop
 loop-again c =
-    let r = c .before .before .before .before .loop in
-    let n = c .next2 .ensures in
-    let g = c .before .before .gather in (
-      n .high,
-      n .here,
-      rw (c .before .join .ensures)
-          (unions-next (g .result) (r .inv .1 (c .before .before .before .loop-test .taken)) n (g .ensures .source) (λ x w. g .ensures .all (w .0) x (w .1) (w .2)) (r .inv .2)),
+    let at = c .before .before .before .before in
+    let r = at .before .loop in
+    let n = ahead-next (r .inv .0) (at .loop-test .taken) (c .before .rest .ensures) (c .first2 .ensures) in
+    let g = c .before .before .before .gather in (
+      n .ahead,
+      rw (c .before .before .join .ensures)
+          (unions-next (g .result) (n .on) (n .next) (g .ensures .source) (λ x w. g .ensures .all (w .0) x (w .1) (w .2)) (r .inv .1)),
     )
 
 returns : tie.Need-returns Inv-loop μ-loop
 returns c =
-    let u = c .before .loop .inv .2 in
+    let u = c .before .loop .inv .1 in
     let whole = unions-end (c .before .before .before .before .fits .ms .fits) (c .loop-test .left) u in
     record { source = u .source; all = λ m n x o i h. whole m x o (n, i, h) }
 
@@ -64,14 +65,14 @@ properties-spec =
     (tie.spec
     Inv-loop
     μ-loop
-    next-requires
+    first-requires
     loop-holds
     mul-gather
     add-gather
     gather-requires
     join-requires
-    add-next
-    next-requires-2
+    rest-requires
+    first-requires-2
     loop-less
     loop-again
     returns)

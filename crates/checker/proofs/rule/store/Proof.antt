@@ -3,11 +3,11 @@ use borrow.Author.Needs.{needs}
 use mathlib.Core.Path.{_≡_}
 use mathlib.Core.Bool.{not}
 use mathlib.Core.List.{[]}
-use Prim.Native.Nat.{_-_, _≤_, _<_}
+use Prim.Native.Nat.{_-_}
 use native.Mathlib.Omega.{arith}
 use lib.ListN.{getD}
 use lib.Dec.{eqb}
-use Rattle.words.proofs.Bits.{On}
+use Rattle.words.proofs.Onward.{Ahead, ahead-first, ahead-some, ahead-next, ahead-less}
 use Rattle.rows.specs.Row.{variable, property}
 use Rattle.rules.specs.Rule.{include, over, when}
 use Rattle.rules.specs.Round.{labels}
@@ -24,12 +24,12 @@ use Rattle.checker.proofs.rule.store.Statement.{statement}
 use Rattle.checker.proofs.rule.store.Tie as tie
 
 abbrev Inv-loop : tie.InvT-loop
-Inv-loop t d flags masks words meets x key a low names w best₀ l₀ best l =
-    (l ≤ 64) × (l < 64 → On w l)
+Inv-loop t d flags masks words meets x key a low names w best₀ rest₀ l₀ best rest l =
+    Ahead w l rest
     × Finds 64 (seen d t) (over (labels l w) (λ m. when (not (eqb (getD flags m 0) 1)) (over (labels 64 names) (λ n. include (property m n) (variable a))))) low best
 
 abbrev μ-loop : tie.MeasureT-loop
-μ-loop t d flags masks words meets x key a low names w best₀ l₀ best l = 64 - l
+μ-loop t d flags masks words meets x key a low names w best₀ rest₀ l₀ best rest l = 64 - l
 
 names-at-requires : tie.Need-names-at-requires Inv-loop μ-loop
 names-at-requires c κs = search needs
@@ -37,11 +37,11 @@ names-at-requires c κs = search needs
 row-at-requires : tie.Need-row-at-requires Inv-loop μ-loop
 row-at-requires c κs = search needs
 
-next-requires : tie.Need-next-requires Inv-loop μ-loop
-next-requires c κs = search needs
+first-requires : tie.Need-first-requires Inv-loop μ-loop
+first-requires c κs = search needs
 
 loop-holds : tie.Need-loop-holds Inv-loop μ-loop
-loop-holds c = let n = c .next .ensures in (n .high, n .here, each-first _ _ n)
+loop-holds c = let n = c .first .ensures in (ahead-first n, each-first _ _ n)
 
 common-at-requires : tie.Need-common-at-requires Inv-loop μ-loop
 common-at-requires c κs = let p = c .before .before .before .before .before .before .pre in (p .0, p .2, c .loop-test .taken, p .5)
@@ -52,20 +52,21 @@ element-copy-out-store-at c = search needs
 store-at-requires : tie.Need-store-at-requires Inv-loop μ-loop
 store-at-requires c κs = let p = c .before .before .before .before .before .before .before .before .pre in (p .0, c .before .before .loop-test .taken, p .3, rw (c .before .before .before .before .before .before .names-at .ensures) (c .before .common-at .ensures))
 
-add-next : tie.Need-add-next Inv-loop μ-loop
-add-next c = search needs
+rest-requires : tie.Need-rest-requires Inv-loop μ-loop
+rest-requires c κs = search (needs, ahead-some)
 
-next-requires-2 : tie.Need-next-requires-2 Inv-loop μ-loop
-next-requires-2 c κs = search needs
+first-requires-2 : tie.Need-first-requires-2 Inv-loop μ-loop
+first-requires-2 c κs = search needs
 
 loop-less : tie.Need-loop-less Inv-loop μ-loop
-loop-less c = search needs
+loop-less c = search (needs, ahead-less)
 
 loop-again : tie.Need-loop-again Inv-loop μ-loop
 loop-again c =
-    let r = c .before .before .before .before .before .loop in
-    let n = c .next2 .ensures in
-    (n .high, n .here, each-next _ _ _ (r .inv .1 (c .before .before .before .before .loop-test .taken)) n (r .inv .2) (c .before .store-at .ensures))
+    let at = c .before .before .before .before .before in
+    let r = at .before .loop in
+    let n = ahead-next (r .inv .0) (at .loop-test .taken) (c .before .rest .ensures) (c .first2 .ensures) in
+    (n .ahead, each-next _ _ _ (n .on) (n .next) (r .inv .1) (c .before .before .store-at .ensures))
 
 returns : tie.Need-returns Inv-loop μ-loop
 unfolding namesOf
@@ -76,7 +77,7 @@ returns c =
     let e : c .before .loop .l ≡ 64 = omega arith in
     store-named (desk [] (a .flags .now) [] (a .masks .now) []) (a .x) (a .key) (a .a) (names .result)
     (rw (names .ensures) (word-listed (a .masks .now) (a .words .now) (a .key) (b .pre .2) (b .pre .4))) (search needs)
-    (finds-each-end (variable (a .x)) (seen-small (a .d) (a .t .now) (b .fits .d .fits)) (rw (e, c .before .before .before .row-at .ensures) at (c .before .loop .inv .2)))
+    (finds-each-end (variable (a .x)) (seen-small (a .d) (a .t .now) (b .fits .d .fits)) (rw (e, c .before .before .before .row-at .ensures) at (c .before .loop .inv .1)))
 
 pub store-spec : {M : Type 1} → statement M
 store-spec =
@@ -86,13 +87,13 @@ store-spec =
     μ-loop
     names-at-requires
     row-at-requires
-    next-requires
+    first-requires
     loop-holds
     common-at-requires
     element-copy-out-store-at
     store-at-requires
-    add-next
-    next-requires-2
+    rest-requires
+    first-requires-2
     loop-less
     loop-again
     returns)
