@@ -4,3 +4,4 @@ pub mod Looks
 pub mod Keeps
 pub mod Fulls
 pub mod Unites
+pub mod Sums

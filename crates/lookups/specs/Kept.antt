@@ -1,7 +1,7 @@
 -- What a pass goes by, so that it can pass over what was drawn before. `old` is the table at the start of the last pass, `new` the one at the start of
 -- this pass; all that the rules draw from `old` is in the table already. Rows that did not grow from `old` to `new` are not noted; for each variable and
 -- each function a word is kept of what the rules look up through it, and which part of that is fresh; for each label, the unions of its properties under
--- the names of each class, and the labels that all its properties hold. Assumes nothing.
+-- the names of each class, and the labels that all these properties hold. Assumes nothing.
 use mathlib.Core.Path.{_≡_}
 use mathlib.Core.Logic.{_⊎_}
 use mathlib.Core.List.{List}
@@ -80,9 +80,14 @@ Part n fresh words = (v m : ℕ) → v < n → bit (getD fresh v 0) m ≡ 1 → 
 abbrev pub Exacts : ℕ → (ℕ → ℕ → Type 0) → List ℕ → Type 0
 Exacts n set words = (v : ℕ) → v < n → Exact (set v) (getD words v 0)
 
--- each word holds only labels that every property of its label holds
-abbrev pub Full : Table → List ℕ → Type 0
-Full t full = (m n l : ℕ) → m < 64 → n < 32 → bit (getD full m 0) l ≡ 1 → Has t (256 + 32 * m + n) l
+-- each word holds only labels that all properties of its label under the names of its class hold: four classes from class `first` on, 64 labels a class
+abbrev pub Full : ℕ → List ℕ → Table → List ℕ → Type 0
+Full first classes t full = (v n l : ℕ) → v < 256 → n < 32 → bit (getD classes (first + v / 64) 0) n ≡ 1 → bit (getD full v 0) l ≡ 1
+    → Has t (256 + 32 * (v % 64) + n) l
+
+-- the same for all eight classes
+abbrev pub Fulls : List ℕ → Table → List ℕ → List ℕ → Type 0
+Fulls classes t lower upper = Full 0 classes t lower × Full 4 classes t upper
 
 -- the number of labels in each row, in two arrays
 pub record Sizes (t : Table) (low high : List ℕ) : Type 0 where

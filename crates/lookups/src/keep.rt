@@ -5,7 +5,7 @@ ghost use Prim.Native.Nat.{ℕ, _<_, _≤_};
 ghost use lib.ListN.{length, getD};
 ghost use Rattle.words.specs.Words.{bit};
 ghost use Rattle.rules.specs.Table.{Table, Within};
-ghost use Rattle.lookups.specs.Kept.{Same, Stirred, OnChains, Method, HandedBack, Under, Joined, Exact, Delta, Deltas, Exacts, Returned};
+ghost use Rattle.lookups.specs.Kept.{Same, Stirred, OnChains, Method, HandedBack, Under, Joined, Exact, Delta, Deltas, Exacts, Returned, Part};
 use crate::look::look;
 use crate::note::noted;
 use tables::gather::gather;
@@ -26,7 +26,7 @@ fn chain_word(t: &[u64], last: &[u64; 38], before: u64, v: usize) -> u64
 pub fn renew_chains(t: &[u64], last: &[u64; 38], chains: &mut [u64; 256], fresh: &mut [u64; 256])
     requires { ⌜ (2432 ≤ length (now t)) × (length (now chains) ≡ 256) × (length (now fresh) ≡ 256) ⌝ }
     ensures { λ _. ⌜ ((old : Table) → Same (now (last .entry)) old (now (t .entry)) → Exacts 256 (OnChains old) (now (chains .entry)) → Deltas 256 OnChains old (now (t .entry)) (now (chains .exit)) (now (fresh .exit))) ⌝ }
-    ensures { λ _. ⌜ (length (now (chains .exit)) ≡ 256) × (length (now (fresh .exit)) ≡ 256) ⌝ }
+    ensures { λ _. ⌜ (length (now (chains .exit)) ≡ 256) × (length (now (fresh .exit)) ≡ 256) × Part 256 (now (fresh .exit)) (now (chains .exit)) ⌝ }
 {
     let mut v: usize = 0;
     while v < 256 {

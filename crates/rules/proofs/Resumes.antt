@@ -3,7 +3,7 @@
 use mathlib.Core.Path.{_≡_, refl, sym, _∙_, subst}
 use mathlib.Core.Logic.{_⊎_, inl, inr}
 use mathlib.Core.List.{List, [], _∷_, _++_}
-use mathlib.Core.Bool.{Bool, true, false, _||_}
+use mathlib.Core.Bool.{Bool, true, false, _||_, _&&_}
 use Prim.Native.Nat.{ℕ, _^_, _<_}
 use native.Mathlib.Omega.{arith}
 use lib.ListN.{getD}
@@ -24,6 +24,9 @@ use Rattle.rules.proofs.Sweep.{reaches-on, reaches-for, reaches-facts, 
 
 pub sweeps-adds : {L : ℕ} {p : Rule} {t u : Table} {grew : Bool} → Sweeps L p t u grew → Adds L p t u grew
 sweeps-adds s = record { reaches = s .reaches; still = s .still; more = s .more }
+
+pub resumes-adds : {L : ℕ} {p : Rule} {old new t u : Table} {grew : Bool} → Resumes L p old new t u grew → Adds L p t u grew
+resumes-adds s = record { reaches = s .reaches; still = s .still; more = s .more }
 
 pub adds-none : {L : ℕ} {p : Rule} {t : Table} → Adds L p t t false
 adds-none = let s = sweeps-none in record { reaches = reaches-for (λ v w c. tt) (s .reaches); still = s .still; more = s .more }
@@ -156,6 +159,16 @@ resumes-left {L} {p} {old} {new} {t} {u} {again} {grew} e s = rw e (go grew refl
     go : (b : Bool) → grew ≡ b → left L b u < left L true t
     go true g = omega (arith, s .more g, facts-room L u)
     go false g = omega arith
+
+-- and of one that may stop though something was added
+pub adds-left : {L : ℕ} {p : Rule} {t u : Table} {again grew : Bool} (on : Bool) → again ≡ true → Adds L p t u grew → left L (grew && on) u < left L again t
+unfolding room
+adds-left {L} {p} {t} {u} {again} {grew} on e s = rw e (go grew refl on)
+  where
+    go : (b : Bool) → grew ≡ b → (d : Bool) → left L (b && d) u < left L true t
+    go true g true = omega (arith, s .more g, facts-room L u)
+    go true g false = omega arith
+    go false g d = omega arith
 
 -- what is within the table stays within it
 pub within-on : {L : ℕ} {p : Rule} {t u : Table} (s : Table) → Within s t → Reaches L p t u → Within s u

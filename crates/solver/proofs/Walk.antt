@@ -1,31 +1,25 @@
--- A pass over the records of a readable file: at each turn what is left of the bytes is the records left, written out, and the work so far is
--- for the rules of those passed. Assumes nothing.
+-- A pass over the records of a readable file: the work so far is for the rules of the records passed. Assumes nothing.
 use mathlib.Core.Path.{_≡_, refl, sym, ap, _∙_, subst}
-use mathlib.Core.List.{List, [], _∷_, _++_, map, append-assoc, append-nil, List·Memᴰ, List·Memᴰ·head, List·Memᴰ·tail}
+use mathlib.Core.List.{List, [], _∷_, _++_, map, append-assoc, append-nil}
 use mathlib.Core.Bool.{Bool, false, _||_}
-use Prim.Native.Nat.{ℕ, suc, _+_, _-_, _≤_, _<_}
-use native.Mathlib.Numerals.{add-one}
-use native.Mathlib.Decide.{decLt}
+use Prim.Native.Nat.{ℕ, _+_, _-_, _≤_, _<_}
 use native.Mathlib.Omega.{arith}
-use lib.ListN.{length, getD, take, drop, length-drop, length-append, drop-of-length-le}
-use lib.Seq.{drop-cons, drop-drop, take-at, drop-at}
+use lib.ListN.{length, getD, take, drop, drop-of-length-le}
 use Rattle.layout.specs.Layout.{bodyLength}
-use Rattle.layout.proofs.Table.{no-kind}
 use Rattle.rules.specs.Table.{Table}
 use Rattle.rules.specs.Rule.{Rule, every}
-use Rattle.rules.specs.Sweep.{Resumes}
-use Rattle.rules.proofs.Resumes.{resumes-every-none, resumes-append}
+use Rattle.rules.specs.Told.{Closed}
+use Rattle.rules.specs.Sweep.{Adds, Resumes}
+use Rattle.rules.proofs.Loop.{append-closed}
+use Rattle.rules.proofs.Resumes.{resumes-every-none, resumes-append, resumes-adds, adds-for, adds-on}
 use Rattle.format.specs.Records.{Record}
-use Rattle.format.specs.Reading.{Reading, readFile, Readable, written, positioned}
-use Rattle.format.proofs.File.{Read, readable-read, read-is}
-use Rattle.format.proofs.Ready.{Made}
-use Rattle.format.proofs.Readable.{readable-ready}
+use Rattle.format.specs.Reading.{readFile, Readable, written, positioned}
 use Rattle.program.specs.Statement.{Statement, statementsOf}
 use Rattle.program.specs.Program.{Program, placed, hostStatements}
 use Rattle.analysis.specs.Rules.{ruleOf}
 use Rattle.statements.specs.Desk.{saying, recordRule, hostRules}
-use Rattle.statements.specs.Range.{InRange}
-use Rattle.statements.proofs.Ranges.{fits-in-range}
+use Rattle.hints.specs.Walk.{Walk}
+use Rattle.hints.proofs.Walk.{walk-first, first-done, here, walk-body, walk-next, next-done}
 
 -- the rules of a list of records
 abbrev pub rulesOf : Program → List Record → List Rule
@@ -49,126 +43,43 @@ rules-append p [] qs = refl
 rules-append p (r ∷ rs) qs =
     ap (λ (ps : List Rule). saying p r ++ ps) (rules-append p rs qs) ∙ sym (append-assoc (saying p r) (rulesOf p rs) (rulesOf p qs))
 
--- every record's kind is known, and its bytes are in their ranges
-abbrev pub Sound : Record → Type 0
-Sound r = (0 < bodyLength (r .kind)) × InRange (r .kind) (r .body)
-
-abbrev pub AllSound : List Record → Type 0
-AllSound [] = Unit {0}
-AllSound (r ∷ rs) = Sound r × AllSound rs
-
-all-sound : (at : ℕ) (rs : List Record) → ((a : ℕ) (r : Record) → List·Memᴰ (a, r) (positioned at rs) → Sound r) → AllSound rs
-unfolding positioned
-all-sound at [] h = tt
-all-sound at (r ∷ rs) h = (h at r (List·Memᴰ·head refl), all-sound (at + 1 + length (r .body)) rs (λ a q i. h a q (List·Memᴰ·tail i)))
-
-pub record Walk (file : List ℕ) (at : ℕ) : Type 0 where
-  pub done : List Record
-  pub rest : List Record
-  pub whole : readFile 64 file .records ≡ positioned 0 (done ++ rest)
-  pub bytes : drop at file ≡ written rest
-  pub within : at ≤ length file
-  pub sound : AllSound rest
-
-pub walk-first : (file : List ℕ) → Readable 64 file → Walk file 0
-walk-first file ok =
-    record {
-      done = [];
-      rest = r .whole .records;
-      whole = records;
-      bytes = r .whole .bytes;
-      within = omega arith;
-      sound = all-sound 0 (r .whole .records) (λ a q i.
-          let f = m .all-fit a q (subst (λ (ps : List (ℕ × Record)). List·Memᴰ (a, q) ps) (sym records) i) in
-          (f .0, fits-in-range (readFile 64 file .sheet) (m .sized) (q .kind) (q .body) (f .1)));
-    }
-  where
-    r : Read 64 file
-    r = readable-read 64 file ok
-
-    m : Made 64 (readFile 64 file .sheet) (readFile 64 file .records)
-    m = readable-ready 64 file (omega arith) ok .made
-
-    records : readFile 64 file .records ≡ positioned 0 (r .whole .records)
-    records = ap (λ (d : Reading). d .records) (read-is 64 file r)
-
 pub resumes-first : {old new t : Table} (p : Program) (file : List ℕ) (ok : Readable 64 file)
     → Resumes 64 (every (rulesOf p (walk-first file ok .done))) old new t t false
-unfolding walk-first
-resumes-first p file ok = resumes-every-none
+resumes-first {old} {new} {t} p file ok =
+    subst (λ (rs : List Record). Resumes 64 (every (rulesOf p rs)) old new t t false) (sym (first-done file ok)) resumes-every-none
 
--- the record at the front of the bytes left
-pub record Head (file : List ℕ) (at : ℕ) (rest : List Record) : Type 0 where
-  pub front : Record
-  pub others : List Record
-  pub parts : rest ≡ front ∷ others
-  pub kind : getD file at 0 ≡ front .kind
-  pub after : drop (suc at) file ≡ front .body ++ written others
-  pub sound : Sound front
-  pub more : AllSound others
+-- the rules of this record, after those of the records passed
+pub resumes-next : {file : List ℕ} {at : ℕ} (w : Walk file at) (h : at < length file) (n : ℕ) (e : n ≡ bodyLength (getD file at 0))
+    {old new first last next : Table} {grew more : Bool} (p : Program)
+    → Resumes 64 (every (rulesOf p (w .done))) old new first last grew
+    → Resumes 64 (recordRule p (getD file at 0) (take (at + 1 + n - (at + 1)) (drop (at + 1) file))) old new last next more
+    → Resumes 64 (every (rulesOf p (walk-next w h n e .done))) old new first next (grew || more)
+resumes-next {file} {at} w h n e {old} {new} {first} {last} {next} {grew} {more} p done now =
+    let f = here w h .front in
+    let q : rulesOf p (walk-next w h n e .done) ≡ rulesOf p (w .done) ++ saying p f =
+    ap (rulesOf p) (next-done w h n e) ∙ rules-append p (w .done) (f ∷ [])
+    ∙ ap (λ (rs : List Rule). rulesOf p (w .done) ++ rs) (append-nil (saying p f)) in
+    subst (λ (rs : List Rule). Resumes 64 (every rs) old new first next (grew || more)) (sym q)
+    (resumes-append (rulesOf p (w .done)) (saying p f) done (rw (walk-body w h n e, here w h .kind) at now))
 
-head : (file : List ℕ) (at : ℕ) (rest : List Record) → drop at file ≡ written rest → AllSound rest → at < length file → Head file at rest
-unfolding written
-head file at [] e s h = absurd (omega (arith, length-drop at file, ap length e))
-head file at (r ∷ rs) e s h =
-    let d : getD file at 0 ∷ drop (suc at) file ≡ r .kind ∷ (r .body ++ written rs) = sym (drop-cons file at 0 h) ∙ e in
-    record { front = r; others = rs; parts = refl; kind = (cc); after = (cc); sound = s .0; more = s .1 }
-
-module _ {file : List ℕ} {at : ℕ} (w : Walk file at) (h : at < length file) where
-  pub here : Head file at (w .rest)
-  here = head file at (w .rest) (w .bytes) (w .sound) h
-
-  size : length (here .front .body) ≡ bodyLength (getD file at 0)
-  size = here .sound .1 .0 ∙ ap bodyLength (sym (here .kind))
-
-  pub walk-known : getD file at 0 < 27
-  walk-known = go (decLt (getD file at 0) 27)
-    where
-      go : Dec (getD file at 0 < 27) → getD file at 0 < 27
-      go (yes i) = i
-      go (no i) = absurd (omega (arith, here .sound .0, ap bodyLength (here .kind), no-kind (getD file at 0) (omega arith)))
-
-  pub walk-room : at + 1 + bodyLength (getD file at 0) ≤ length file
-  walk-room =
-      omega (arith, size, length-drop (suc at) file, ap length (here .after), length-append (here .front .body) (written (here .others)))
-
-  module _ (n : ℕ) (e : n ≡ bodyLength (getD file at 0)) where
-    body : take (at + 1 + n - (at + 1)) (drop (at + 1) file) ≡ here .front .body
-    body =
-        let q : at + 1 + n - (at + 1) ≡ n = omega arith in
-        rw (q, add-one, here .after) (take-at (here .front .body) (written (here .others)) n (size ∙ sym e))
-
-    pub walk-range : InRange (getD file at 0) (take (at + 1 + n - (at + 1)) (drop (at + 1) file))
-    walk-range = rw (body, here .kind) (here .sound .1)
-
-    left : drop (at + 1 + n) file ≡ written (here .others)
-    left =
-        let q : at + 1 + n ≡ suc at + n = omega arith in
-        rw (q, ← drop-drop n (suc at) file, here .after) (drop-at (here .front .body) (written (here .others)) n (size ∙ sym e))
-
-    pub walk-next : Walk file (at + 1 + n)
-    walk-next =
-        record {
-          done = w .done ++ (here .front ∷ []);
-          rest = here .others;
-          whole = w .whole ∙ ap (λ (rs : List Record). positioned 0 (w .done ++ rs)) (here .parts)
-              ∙ ap (positioned 0) (sym (append-assoc (w .done) (here .front ∷ []) (here .others)));
-          bytes = left;
-          within = omega (arith, walk-room, e);
-          sound = here .more;
-        }
-
-    -- the rules of this record, after those of the records passed
-    pub resumes-next : {old new first last next : Table} {grew more : Bool} (p : Program)
-        → Resumes 64 (every (rulesOf p (w .done))) old new first last grew
-        → Resumes 64 (recordRule p (getD file at 0) (take (at + 1 + n - (at + 1)) (drop (at + 1) file))) old new last next more
-        → Resumes 64 (every (rulesOf p (walk-next .done))) old new first next (grew || more)
-    unfolding walk-next
-    resumes-next {old} {new} {first} {last} {next} {grew} {more} p done now =
-        let e : rulesOf p (w .done ++ (here .front ∷ [])) ≡ rulesOf p (w .done) ++ saying p (here .front) =
-        rules-append p (w .done) (here .front ∷ []) ∙ ap (λ (rs : List Rule). rulesOf p (w .done) ++ rs) (append-nil (saying p (here .front))) in
-        subst (λ (rs : List Rule). Resumes 64 (every rs) old new first next (grew || more)) (sym e)
-        (resumes-append (rulesOf p (w .done)) (saying p (here .front)) done (rw (body, here .kind) at now))
+-- they are among those of the file
+pub adds-next : {file : List ℕ} {at : ℕ} (w : Walk file at) (h : at < length file) (n : ℕ) (e : n ≡ bodyLength (getD file at 0))
+    {old new first last next : Table} {grew more : Bool} (p : Program)
+    → Adds 64 (hostRules p file) first last grew
+    → Resumes 64 (recordRule p (getD file at 0) (take (at + 1 + n - (at + 1)) (drop (at + 1) file))) old new last next more
+    → Adds 64 (hostRules p file) first next (grew || more)
+adds-next {file} {at} w h n e {old} {new} {first} {last} {next} {grew} {more} p done now =
+    adds-on done (adds-for (λ v i c. among v c) (resumes-adds (rw (walk-body w h n e, here w h .kind) at now)))
+  where
+    among : (v : Table) → Closed 64 v (hostRules p file) → Closed 64 v (every (saying p (here w h .front)))
+    among v c =
+        let front = here w h .front in
+        let others = here w h .others in
+        let d = ap (λ (rs : List (ℕ × Record)). map (λ s. ruleOf p (s .1)) (hostStatements rs))
+        (w .whole ∙ ap (λ (rs : List Record). positioned 0 (w .done ++ rs)) (here w h .parts))
+        ∙ host-rules p 0 (w .done ++ (front ∷ others)) ∙ rules-append p (w .done) (front ∷ others) in
+        let left = append-closed 64 v (rulesOf p (w .done)) (saying p front ++ rulesOf p others) (subst (λ (rs : List Rule). Closed 64 v (every rs)) d c) .1 in
+        append-closed 64 v (saying p front) (rulesOf p others) left .0
 
 -- at the end of the file all are passed
 pub walk-end : {old new first last : Table} {grew : Bool} {file : List ℕ} {at : ℕ} (p : Program) (w : Walk file at) → length file ≤ at

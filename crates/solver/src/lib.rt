@@ -7,11 +7,14 @@ ghost use Rattle.format.specs.Reading.{readFile, Readable};
 ghost use Rattle.program.specs.Program.{programOf};
 ghost use Rattle.analysis.specs.Verdict.{leastTable};
 ghost use Rattle.sheet.specs.View.{sheetOf};
-use crate::pass::settle;
+use crate::settle::settle;
 use crate::table::clear;
 use sheet::Sheet;
 
 mod pass;
+mod quick;
+mod renew;
+mod settle;
 pub mod table;
 
 // The least table of the file, whose declarations are in the sheet; what stood in the rows counts for nothing, words beyond them stay.

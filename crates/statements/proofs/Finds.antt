@@ -26,9 +26,8 @@ use Rattle.format.specs.Sheet.{builtIn}
 use Rattle.program.specs.Program.{Program, namesOf, inClass}
 use Rattle.analysis.specs.Rules.{looking, storing}
 use Rattle.tables.specs.Sets.{Gathered, Listed}
-use Rattle.lookups.specs.Kept.{Noted, Same, Stirred, OnChains, Under, Joined, Exact, Delta, Exacts, Looked, Full}
-use Rattle.lookups.proofs.Looks.{whole-word}
-use Rattle.lookups.proofs.Fulls.{full-within, full-join}
+use Rattle.lookups.specs.Kept.{Noted, Same, Stirred, OnChains, Under, Joined, Exact, Delta, Exacts, Looked, Full, Fulls}
+use Rattle.lookups.proofs.Fulls.{full-within, full-join, fulls-within}
 use Rattle.statements.specs.Range.{Key}
 use Rattle.statements.specs.View.{Named}
 use Rattle.statements.proofs.Passing.{closed-when, heeds-when}
@@ -259,29 +258,45 @@ store-named {t} {u} p x key a names listed h s =
     worded : ℕ → Rule
     worded l = over (labels 64 names) (λ n. include (property l n) (variable a))
 
--- what every property of label l holds need not be stored there
-pub store-full : (t : Table) (full : List ℕ) (l names a : ℕ) → l < 64 → Full t full → ((n : ℕ) → On names n → n < 32)
-    → difference (getD t a 0) (getD full l 0) ≡ 0 → Sweeps 64 (over (labels 64 names) (λ n. include (property l n) (variable a))) t t false
-store-full t full l names a h f below e =
+-- the class and the label of a place
+pub place-of : (base l : ℕ) → l < 64 → base % 64 ≡ 0 → ((base + l) / 64 ≡ base / 64) × (l ≡ (base + l) % 64)
+place-of base l h e = (omega arith, omega arith)
+
+-- what all properties of label l under the names of a class hold need not be stored there
+pub store-full : (t : Table) (full : List ℕ) (first : ℕ) (classes : List ℕ) (place l names a : ℕ) → place < 256 → l ≡ place % 64
+    → names ≡ getD classes (first + place / 64) 0 → ((n : ℕ) → On names n → n < 32) → Full first classes t full
+    → difference (getD t a 0) (getD full place 0) ≡ 0 → Sweeps 64 (over (labels 64 names) (λ n. include (property l n) (variable a))) t t false
+store-full t full first classes place l names a h label class below f e =
     let s = sweeps-none {L = 64} {t = t} in
-    record { reaches = reaches-itself; heeds = λ n i z k o. f l n k h (below n (label-on 64 names n i .1)) (known k o); still = s .still; more = s .more }
+    record { reaches = reaches-itself; heeds = λ n i z k o. held n k (label-on 64 names n i .1) (known k o); still = s .still; more = s .more }
   where
-    known : (k : ℕ) → Has t a k → On (getD full l 0) k
+    known : (k : ℕ) → Has t a k → On (getD full place 0) k
     known k o =
-        elim (difference-on (getD t a 0) (getD full l 0) k o) [ inl i ↦ absurd (empty-off k (subst (λ (w : ℕ). On w k) e i)) | inr i ↦ i ]
+        elim (difference-on (getD t a 0) (getD full place 0) k o) [ inl i ↦ absurd (empty-off k (subst (λ (w : ℕ). On w k) e i)) | inr i ↦ i ]
 
--- what is stored under all names is in every property of label l
-pub store-fills : {t u : Table} {grew : Bool} (full : List ℕ) (l names a : ℕ) → l < length full → names ≡ 4294967295
-    → Sweeps 64 (over (labels 64 names) (λ n. include (variable (256 + 32 * l + n)) (variable a))) t u grew → Full t full
-    → Full u (set full l (union (getD full l 0) (getD t a 0)))
-store-fills {t} {u} full l names a h e s f =
-    full-join u full l (getD t a 0) h (λ n k i o. s .heeds n (on-label 64 names n (omega arith) (subst (λ (w : ℕ). On w n) (sym e) (whole-word 32 n i))) (omega arith) k o)
-    (full-within t u full (s .reaches .adds) f)
+    held : (n k : ℕ) → On names n → On (getD full place 0) k → Has t (256 + 32 * l + n) k
+    held n k i o =
+        subst (λ (m : ℕ). Has t (256 + 32 * m + n) k) (sym label) (f place n k h (below n i) (subst (λ (w : ℕ). On w n) class i) o)
 
--- what work keeps full
-pub keeping : {rule : Rule} {old new t u : Table} {grew : Bool} (full : List ℕ) → Resumes 64 rule old new t u grew → Full t full
-    → Resumes 64 rule old new t u grew × Full u full
-keeping {t = t} {u = u} full s f = (s, full-within t u full (s .reaches .adds) f)
+-- what is stored under the names of a class is in all these properties of label l
+pub store-fills : {t u : Table} {grew : Bool} (full : List ℕ) (first : ℕ) (classes : List ℕ) (place l names a : ℕ) → place < length full
+    → l ≡ place % 64 → names ≡ getD classes (first + place / 64) 0
+    → Sweeps 64 (over (labels 64 names) (λ n. include (variable (256 + 32 * l + n)) (variable a))) t u grew → Full first classes t full
+    → Full first classes u (set full place (union (getD full place 0) (getD t a 0)))
+store-fills {t} {u} full first classes place l names a h label class s f =
+    full-join first classes u full place (getD t a 0) h
+    (λ n k i c o. subst (λ (m : ℕ). Has u (256 + 32 * m + n) k) label
+    (s .heeds n (on-label 64 names n (omega arith) (subst (λ (w : ℕ). On w n) (sym class) c)) (omega arith) k o))
+    (full-within first classes t u full (s .reaches .adds) f)
+
+-- what work keeps full: the words of four classes, and of all
+pub keeping-four : {rule : Rule} {old new t u : Table} {grew : Bool} (first : ℕ) (classes full : List ℕ) → Resumes 64 rule old new t u grew
+    → Full first classes t full → Full first classes u full
+keeping-four {t = t} {u = u} first classes full s f = full-within first classes t u full (s .reaches .adds) f
+
+pub keeping : {rule : Rule} {old new t u : Table} {grew : Bool} (classes lower upper : List ℕ) → Resumes 64 rule old new t u grew
+    → Fulls classes t lower upper → Resumes 64 rule old new t u grew × Fulls classes u lower upper
+keeping {t = t} {u = u} classes lower upper s f = (s, fulls-within classes t u lower upper (s .reaches .adds) f)
 
 -- where neither S(x) nor S(a) grew, all was stored before
 pub store-known : (p : Program) (last : List ℕ) (old new t : Table) (x key a : ℕ) → x < 256 → a < 256 → Same last old new

@@ -12,14 +12,14 @@ ghost use Rattle.statements.specs.View.{Laid, View};
 use crate::function::call;
 use crate::function::make_new;
 use crate::rule::load_class;
-use crate::rule::store;
+use crate::rule::store_class;
 use tables::store::give_row;
 use tables::store::include_row;
 
 // Scope and label 3, variable 1, key 128: make function, load, store, call, new, throw, catch. Row 355 is H(3,3), row 2371 T(3).
 pub fn guest(
     t: &mut [u64],
-    full: &mut [u64; 64],
+    lower_meets: &mut [u64; 256],
     functions: u64,
     flags: &[u8; 64],
     formals: &[u8; 448],
@@ -32,9 +32,9 @@ pub fn guest(
     stirred: u64,
     stale: u64,
 ) -> bool
-    requires { ⌜ (2432 ≤ length (now t)) × (length (now formals) ≡ 448) × (length (now handed) ≡ 64) × Stirred (now last) stirred × Part 256 (now fresh) (now chains) × (length (now full) ≡ 64) × (length (now lower) ≡ 256) ⌝ }
-    ensures { λ r. ⌜ ((p : Program) (returned methods added upper : List ℕ) (old new : Table) → Laid p functions (now (flags .entry)) (now (formals .entry)) (now (classes .entry)) returned → View old new returned (now (classes .entry)) (now (last .entry)) (now (chains .entry)) (now (fresh .entry)) methods added (now (lower .entry)) upper (now (handed .entry)) stirred stale → Within new (now (t .entry)) → Full (now (t .entry)) (now (full .entry)) → Resumes 64 (guestRules p) old new (now (t .entry)) (now (t .exit)) r × Full (now (t .exit)) (now (full .exit))) ⌝ }
-    ensures { λ _. ⌜ length (now (full .exit)) ≡ 64 ⌝ }
+    requires { ⌜ (2432 ≤ length (now t)) × (length (now formals) ≡ 448) × (length (now handed) ≡ 64) × Stirred (now last) stirred × Part 256 (now fresh) (now chains) × (length (now «lower_meets») ≡ 256) × (length (now lower) ≡ 256) ⌝ }
+    ensures { λ r. ⌜ ((p : Program) (returned methods added upper : List ℕ) (old new : Table) → Laid p functions (now (flags .entry)) (now (formals .entry)) (now (classes .entry)) returned → View old new returned (now (classes .entry)) (now (last .entry)) (now (chains .entry)) (now (fresh .entry)) methods added (now (lower .entry)) upper (now (handed .entry)) stirred stale → Within new (now (t .entry)) → Full 0 (now (classes .entry)) (now (t .entry)) (now («lower_meets» .entry)) → Resumes 64 (guestRules p) old new (now (t .entry)) (now (t .exit)) r × Full 0 (now (classes .entry)) (now (t .exit)) (now («lower_meets» .exit))) ⌝ }
+    ensures { λ _. ⌜ length (now («lower_meets» .exit)) ≡ 256 ⌝ }
 {
     let bags = [1u8; 7];
     let names = classes[0];
@@ -43,7 +43,7 @@ pub fn guest(
     let a = give_row(t, 1, 3);
     let b = give_row(t, 355, 3);
     let c = load_class(t, last, lower, c1, f1, stirred, 0, 1, 1, 3);
-    let d = store(t, full, last, flags, names, 1, 1);
+    let d = store_class(t, lower_meets, last, flags, names, 0, 1, 1);
     let e = call(t, functions, formals, last, handed, stale, 3, 1, 1, &bags);
     let f = make_new(
         t,

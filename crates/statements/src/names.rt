@@ -2,7 +2,7 @@
 ghost use mathlib.Core.Path.{_≡_};
 ghost use mathlib.Core.Bool.{cond};
 ghost use mathlib.Core.List.{[]};
-ghost use Prim.Native.Nat.{ℕ, _^_, _<_};
+ghost use Prim.Native.Nat.{ℕ, _-_, _^_, _≤_, _<_};
 ghost use lib.ListN.{length, getD};
 ghost use lib.Dec.{eqb};
 ghost use Rattle.words.specs.Words.{bit, union};
@@ -74,6 +74,7 @@ pub fn name_classes(masks: &[u8; 32], classes: &mut [u64; 8])
 pub fn names_by(classes: &[u64; 8], key: u8) -> u64
     requires { ⌜ Key key ⌝ }
     ensures { λ r. ⌜ ((p : Program) → Named p (now (classes .entry)) → Listed (namesOf (p .sheet) key) r) ⌝ }
+    ensures { λ r. ⌜ (128 ≤ key → r ≡ getD (now (classes .entry)) (key - 128) 0) ⌝ }
 {
     let k = wide(key);
     if k < 128 {

@@ -6,7 +6,7 @@ ghost use lib.ListN.{length};
 ghost use Rattle.rules.specs.Table.{Table, Within};
 ghost use Rattle.rules.specs.Sweep.{Sweeps, Resumes};
 ghost use Rattle.program.specs.Program.{Program};
-ghost use Rattle.lookups.specs.Kept.{Same, Stirred, OnChains, Method, Joined, Part, Deltas, Exacts, Returned, Full};
+ghost use Rattle.lookups.specs.Kept.{Same, Stirred, OnChains, Method, Joined, Part, Deltas, Exacts, Returned, Fulls};
 ghost use Rattle.statements.specs.Desk.{desk, recordRule};
 ghost use Rattle.statements.specs.Range.{InRange};
 ghost use Rattle.statements.specs.View.{Named, Laid, View};
@@ -17,6 +17,7 @@ use crate::names::names_by;
 use crate::rule::load;
 use crate::rule::load_class;
 use crate::rule::store;
+use crate::rule::store_class;
 use rows::Label;
 use rows::Name;
 use rows::Var;
@@ -114,20 +115,29 @@ fn load_record(
 // 18: store k, object, key, value.
 fn store_record(
     t: &mut [u64],
-    full: &mut [u64; 64],
+    lower_meets: &mut [u64; 256],
+    upper_meets: &mut [u64; 256],
     classes: &[u64; 8],
     last: &[u64; 38],
     flags: &[u8; 64],
     body: &[u8],
 ) -> bool
-    requires { ⌜ (2432 ≤ length (now t)) × InRange 18 (now body) × (length (now full) ≡ 64) ⌝ }
-    ensures { λ r. ⌜ ((p : Program) (old new : Table) → Named p (now (classes .entry)) → p .sheet .flags ≡ now (flags .entry) → Same (now (last .entry)) old new → Within new (now (t .entry)) → Full (now (t .entry)) (now (full .entry)) → Resumes 64 (recordRule p 18 (now (body .entry))) old new (now (t .entry)) (now (t .exit)) r × Full (now (t .exit)) (now (full .exit))) ⌝ }
-    ensures { λ _. ⌜ length (now (full .exit)) ≡ 64 ⌝ }
+    requires { ⌜ (2432 ≤ length (now t)) × InRange 18 (now body) × (length (now «lower_meets») ≡ 256) × (length (now «upper_meets») ≡ 256) ⌝ }
+    ensures { λ r. ⌜ ((p : Program) (old new : Table) → Named p (now (classes .entry)) → p .sheet .flags ≡ now (flags .entry) → Same (now (last .entry)) old new → Within new (now (t .entry)) → Fulls (now (classes .entry)) (now (t .entry)) (now («lower_meets» .entry)) (now («upper_meets» .entry)) → Resumes 64 (recordRule p 18 (now (body .entry))) old new (now (t .entry)) (now (t .exit)) r × Fulls (now (classes .entry)) (now (t .exit)) (now («lower_meets» .exit)) (now («upper_meets» .exit))) ⌝ }
+    ensures { λ _. ⌜ (length (now («lower_meets» .exit)) ≡ 256) × (length (now («upper_meets» .exit)) ≡ 256) ⌝ }
 {
-    let names = names_by(classes, body[2]);
+    let key = body[2];
+    let names = names_by(classes, key);
     let x = wide(body[1]);
     let a = wide(body[3]);
-    store(t, full, last, flags, names, x, a)
+    let k = wide(key);
+    if k < 128 {
+        return store(t, last, flags, names, x, a);
+    }
+    if k < 132 {
+        return store_class(t, lower_meets, last, flags, names, 64 * (k - 128), x, a);
+    }
+    store_class(t, upper_meets, last, flags, names, 64 * (k - 132), x, a)
 }
 
 // 19: make k, y, l.
@@ -269,7 +279,8 @@ fn prim_record(
 // The rules of a record, by its kind.
 pub fn statement(
     t: &mut [u64],
-    full: &mut [u64; 64],
+    lower_meets: &mut [u64; 256],
+    upper_meets: &mut [u64; 256],
     functions: u64,
     flags: &[u8; 64],
     formals: &[u8; 448],
@@ -287,9 +298,9 @@ pub fn statement(
     kind: u8,
     body: &[u8],
 ) -> bool
-    requires { ⌜ (2432 ≤ length (now t)) × InRange kind (now body) × (length (now formals) ≡ 448) × (length (now handed) ≡ 64) × Stirred (now last) stirred × Part 256 (now fresh) (now chains) × (length (now full) ≡ 64) × (length (now lower) ≡ 256) × (length (now upper) ≡ 256) ⌝ }
-    ensures { λ r. ⌜ ((p : Program) (returned : List ℕ) (old new : Table) → Laid p functions (now (flags .entry)) (now (formals .entry)) (now (classes .entry)) returned → View old new returned (now (classes .entry)) (now (last .entry)) (now (chains .entry)) (now (fresh .entry)) (now (methods .entry)) (now (added .entry)) (now (lower .entry)) (now (upper .entry)) (now (handed .entry)) stirred stale → Within new (now (t .entry)) → Full (now (t .entry)) (now (full .entry)) → Resumes 64 (recordRule p kind (now (body .entry))) old new (now (t .entry)) (now (t .exit)) r × Full (now (t .exit)) (now (full .exit))) ⌝ }
-    ensures { λ _. ⌜ length (now (full .exit)) ≡ 64 ⌝ }
+    requires { ⌜ (2432 ≤ length (now t)) × InRange kind (now body) × (length (now formals) ≡ 448) × (length (now handed) ≡ 64) × Stirred (now last) stirred × Part 256 (now fresh) (now chains) × (length (now «lower_meets») ≡ 256) × (length (now «upper_meets») ≡ 256) × (length (now lower) ≡ 256) × (length (now upper) ≡ 256) ⌝ }
+    ensures { λ r. ⌜ ((p : Program) (returned : List ℕ) (old new : Table) → Laid p functions (now (flags .entry)) (now (formals .entry)) (now (classes .entry)) returned → View old new returned (now (classes .entry)) (now (last .entry)) (now (chains .entry)) (now (fresh .entry)) (now (methods .entry)) (now (added .entry)) (now (lower .entry)) (now (upper .entry)) (now (handed .entry)) stirred stale → Within new (now (t .entry)) → Fulls (now (classes .entry)) (now (t .entry)) (now («lower_meets» .entry)) (now («upper_meets» .entry)) → Resumes 64 (recordRule p kind (now (body .entry))) old new (now (t .entry)) (now (t .exit)) r × Fulls (now (classes .entry)) (now (t .exit)) (now («lower_meets» .exit)) (now («upper_meets» .exit))) ⌝ }
+    ensures { λ _. ⌜ (length (now («lower_meets» .exit)) ≡ 256) × (length (now («upper_meets» .exit)) ≡ 256) ⌝ }
 {
     match kind {
         5 => variable_record(t, body),
@@ -298,7 +309,7 @@ pub fn statement(
         8 => held_record(t, body),
         16 => copy_record(t, body),
         17 => load_record(t, classes, last, chains, fresh, lower, upper, stirred, body),
-        18 => store_record(t, full, classes, last, flags, body),
+        18 => store_record(t, lower_meets, upper_meets, classes, last, flags, body),
         19 => make_record(t, body),
         20 => function_record(t, body),
         21 => call_record(t, functions, formals, last, handed, stale, body),

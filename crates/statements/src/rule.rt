@@ -1,7 +1,8 @@
 // Loads, stores and prototypes: the rules of properties. What a load finds is collected first and then joined to its row at once.
 ghost use mathlib.Core.Path.{_≡_};
-ghost use mathlib.Core.Bool.{not};
-ghost use Prim.Native.Nat.{ℕ, _+_, _<_, _≤_};
+ghost use mathlib.Core.Bool.{false, not};
+ghost use mathlib.Core.List.{List};
+ghost use Prim.Native.Nat.{ℕ, _+_, _/_, _%_, _<_, _≤_};
 ghost use lib.ListN.{length, getD};
 ghost use lib.Dec.{eqb};
 ghost use Rattle.words.specs.Words.{bit};
@@ -13,7 +14,7 @@ ghost use Rattle.rules.specs.Sweep.{Sweeps, Resumes};
 ghost use Rattle.program.specs.Program.{Program, namesOf};
 ghost use Rattle.analysis.specs.Rules.{loading, storing};
 ghost use Rattle.tables.specs.Sets.{Listed};
-ghost use Rattle.lookups.specs.Kept.{Same, Stirred, OnChains, Under, Exact, Delta, Full};
+ghost use Rattle.lookups.specs.Kept.{Noted, Same, Stirred, OnChains, Under, Exact, Delta, Full};
 ghost use Rattle.statements.specs.Range.{Key};
 use lookups::look::look;
 use lookups::note::noted;
@@ -78,48 +79,28 @@ pub fn load_class(
     gave | grew
 }
 
-// The labels of S(a), into the named properties of label l, unless its flag says that it is built-in. Nothing is to be done where every property of l
-// holds them; `full` says so once they are stored under all 32 names.
-fn store_at(t: &mut [u64], full: &mut [u64; 64], flag: u8, l: usize, names: u64, a: usize) -> bool
-    requires { ⌜ (2432 ≤ length (now t)) × (l < 64) × (a < 256) × (length (now full) ≡ 64) ⌝ }
-    ensures { λ r. ⌜ (Full (now (t .entry)) (now (full .entry)) → ((n : ℕ) → bit names n ≡ 1 → n < 32) → Sweeps 64 (when (not (eqb flag 1)) (over (labels 64 names) (λ n. include (property l n) (variable a)))) (now (t .entry)) (now (t .exit)) r × Full (now (t .exit)) (now (full .exit))) ⌝ }
-    ensures { λ _. ⌜ length (now (full .exit)) ≡ 64 ⌝ }
+// The labels of S(a), into the named properties of label l, unless its flag says that it is built-in.
+fn store_at(t: &mut [u64], flag: u8, l: usize, names: u64, a: usize) -> bool
+    requires { ⌜ (2432 ≤ length (now t)) × (l < 64) × (a < 256) ⌝ }
+    ensures { λ r. ⌜ Sweeps 64 (when (not (eqb flag 1)) (over (labels 64 names) (λ n. include (property l n) (variable a)))) (now (t .entry)) (now (t .exit)) r ⌝ }
 {
     if flag == 1 {
         return false;
     }
-    let value = t[a];
-    let known = full[l];
-    if words::without(value, known) == 0 {
-        return false;
-    }
-    let grew = include_names(t, 256 + 32 * l, names, a);
-    if names != 4294967295 {
-        return grew;
-    }
-    full[l] = words::join(known, value);
-    grew
+    include_names(t, 256 + 32 * l, names, a)
 }
 
 // The same for each label of S(x).
-fn store_all(
-    t: &mut [u64],
-    full: &mut [u64; 64],
-    flags: &[u8; 64],
-    names: u64,
-    x: usize,
-    a: usize,
-) -> bool
-    requires { ⌜ (2432 ≤ length (now t)) × (x < 256) × (a < 256) × (length (now full) ≡ 64) ⌝ }
-    ensures { λ r. ⌜ ((p : Program) (key : ℕ) → p .sheet .flags ≡ now (flags .entry) → Key key → Listed (namesOf (p .sheet) key) names → Full (now (t .entry)) (now (full .entry)) → Sweeps 64 (storing p x key a) (now (t .entry)) (now (t .exit)) r × Full (now (t .exit)) (now (full .exit))) ⌝ }
-    ensures { λ _. ⌜ length (now (full .exit)) ≡ 64 ⌝ }
+fn store_all(t: &mut [u64], flags: &[u8; 64], names: u64, x: usize, a: usize) -> bool
+    requires { ⌜ (2432 ≤ length (now t)) × (x < 256) × (a < 256) ⌝ }
+    ensures { λ r. ⌜ ((p : Program) (key : ℕ) → p .sheet .flags ≡ now (flags .entry) → Key key → Listed (namesOf (p .sheet) key) names → Sweeps 64 (storing p x key a) (now (t .entry)) (now (t .exit)) r) ⌝ }
 {
     let w = t[x];
     let mut grew = false;
     let mut rest = w;
     let mut l = words::first(rest);
     while l < 64 {
-        let more = store_at(t, full, flags[l], l, names, a);
+        let more = store_at(t, flags[l], l, names, a);
         grew = grew | more;
         rest = words::rest(rest);
         l = words::first(rest);
@@ -127,22 +108,104 @@ fn store_all(
     grew
 }
 
+// Whether S(x) or S(a) grew.
+fn either_grew(last: &[u64; 38], x: usize, a: usize) -> bool
+    requires { ⌜ (x < 256) × (a < 256) ⌝ }
+    ensures { λ r. ⌜ (r ≡ false → (Noted (now (last .entry)) x → ⊥) × (Noted (now (last .entry)) a → ⊥)) ⌝ }
+{
+    noted(last, x) | noted(last, a)
+}
+
 // 18: store object x, names, value a; nothing is to be done where neither S(x) nor S(a) grew.
 pub fn store(
     t: &mut [u64],
-    full: &mut [u64; 64],
     last: &[u64; 38],
     flags: &[u8; 64],
     names: u64,
     x: usize,
     a: usize,
 ) -> bool
-    requires { ⌜ (2432 ≤ length (now t)) × (x < 256) × (a < 256) × (length (now full) ≡ 64) ⌝ }
-    ensures { λ r. ⌜ ((p : Program) (key : ℕ) (old new : Table) → p .sheet .flags ≡ now (flags .entry) → Key key → Listed (namesOf (p .sheet) key) names → Same (now (last .entry)) old new → Within new (now (t .entry)) → Full (now (t .entry)) (now (full .entry)) → Resumes 64 (storing p x key a) old new (now (t .entry)) (now (t .exit)) r × Full (now (t .exit)) (now (full .exit))) ⌝ }
-    ensures { λ _. ⌜ length (now (full .exit)) ≡ 64 ⌝ }
+    requires { ⌜ (2432 ≤ length (now t)) × (x < 256) × (a < 256) ⌝ }
+    ensures { λ r. ⌜ ((p : Program) (key : ℕ) (old new : Table) → p .sheet .flags ≡ now (flags .entry) → Key key → Listed (namesOf (p .sheet) key) names → Same (now (last .entry)) old new → Within new (now (t .entry)) → Resumes 64 (storing p x key a) old new (now (t .entry)) (now (t .exit)) r) ⌝ }
 {
-    if noted(last, x) | noted(last, a) {
-        return store_all(t, full, flags, names, x, a);
+    if either_grew(last, x, a) {
+        return store_all(t, flags, names, x, a);
+    }
+    false
+}
+
+// The labels of S(a), into the properties of label l under the names of a class. Nothing is to be done where all these properties hold them: word
+// `place` of `meets`, that of the class and the label, says so once they are stored.
+fn store_class_at(
+    t: &mut [u64],
+    meets: &mut [u64; 256],
+    flag: u8,
+    place: usize,
+    l: usize,
+    names: u64,
+    a: usize,
+) -> bool
+    requires { ⌜ (2432 ≤ length (now t)) × (place < 256) × (l < 64) × (a < 256) × (length (now meets) ≡ 256) ⌝ }
+    ensures { λ r. ⌜ ((first : ℕ) (classes : List ℕ) → l ≡ place % 64 → names ≡ getD classes (first + place / 64) 0 → ((n : ℕ) → bit names n ≡ 1 → n < 32) → Full first classes (now (t .entry)) (now (meets .entry)) → Sweeps 64 (when (not (eqb flag 1)) (over (labels 64 names) (λ n. include (property l n) (variable a)))) (now (t .entry)) (now (t .exit)) r × Full first classes (now (t .exit)) (now (meets .exit))) ⌝ }
+    ensures { λ _. ⌜ length (now (meets .exit)) ≡ 256 ⌝ }
+{
+    if flag == 1 {
+        return false;
+    }
+    let value = t[a];
+    let known = meets[place];
+    if words::without(value, known) == 0 {
+        return false;
+    }
+    let grew = include_names(t, 256 + 32 * l, names, a);
+    meets[place] = words::join(known, value);
+    grew
+}
+
+// The same for each label of S(x); from place `base` on, `meets` has the words of the class.
+fn store_class_all(
+    t: &mut [u64],
+    meets: &mut [u64; 256],
+    flags: &[u8; 64],
+    names: u64,
+    base: usize,
+    x: usize,
+    a: usize,
+) -> bool
+    requires { ⌜ (2432 ≤ length (now t)) × (base + 64 ≤ 256) × (x < 256) × (a < 256) × (length (now meets) ≡ 256) ⌝ }
+    ensures { λ r. ⌜ ((p : Program) (key first : ℕ) (classes : List ℕ) → p .sheet .flags ≡ now (flags .entry) → Key key → Listed (namesOf (p .sheet) key) names → base % 64 ≡ 0 → names ≡ getD classes (first + base / 64) 0 → Full first classes (now (t .entry)) (now (meets .entry)) → Sweeps 64 (storing p x key a) (now (t .entry)) (now (t .exit)) r × Full first classes (now (t .exit)) (now (meets .exit))) ⌝ }
+    ensures { λ _. ⌜ length (now (meets .exit)) ≡ 256 ⌝ }
+{
+    let w = t[x];
+    let mut grew = false;
+    let mut rest = w;
+    let mut l = words::first(rest);
+    while l < 64 {
+        let more = store_class_at(t, meets, flags[l], base + l, l, names, a);
+        grew = grew | more;
+        rest = words::rest(rest);
+        l = words::first(rest);
+    }
+    grew
+}
+
+// The same as `store` for the names of a class.
+pub fn store_class(
+    t: &mut [u64],
+    meets: &mut [u64; 256],
+    last: &[u64; 38],
+    flags: &[u8; 64],
+    names: u64,
+    base: usize,
+    x: usize,
+    a: usize,
+) -> bool
+    requires { ⌜ (2432 ≤ length (now t)) × (base + 64 ≤ 256) × (x < 256) × (a < 256) × (length (now meets) ≡ 256) ⌝ }
+    ensures { λ r. ⌜ ((p : Program) (key first : ℕ) (classes : List ℕ) (old new : Table) → p .sheet .flags ≡ now (flags .entry) → Key key → Listed (namesOf (p .sheet) key) names → base % 64 ≡ 0 → names ≡ getD classes (first + base / 64) 0 → Same (now (last .entry)) old new → Within new (now (t .entry)) → Full first classes (now (t .entry)) (now (meets .entry)) → Resumes 64 (storing p x key a) old new (now (t .entry)) (now (t .exit)) r × Full first classes (now (t .exit)) (now (meets .exit))) ⌝ }
+    ensures { λ _. ⌜ length (now (meets .exit)) ≡ 256 ⌝ }
+{
+    if either_grew(last, x, a) {
+        return store_class_all(t, meets, flags, names, base, x, a);
     }
     false
 }

@@ -3,10 +3,11 @@ use borrow.Author.Needs.{needs}
 use mathlib.Core.Path.{_≡_, refl}
 use Prim.Native.Nat.{_-_, _≤_}
 use native.Mathlib.Omega.{arith}
-use lib.ListN.{length, length-set}
+use lib.ListN.{length, getD, length-set}
 use Rattle.rules.specs.Table.{Table}
-use Rattle.lookups.specs.Kept.{Same, OnChains, Exacts, Deltas}
+use Rattle.lookups.specs.Kept.{Same, OnChains, Exacts, Deltas, Part}
 use Rattle.lookups.proofs.Keeps.{Later, later-next, deltas-none, deltas-renew}
+use Rattle.lookups.proofs.Sums.{part-none, part-next}
 use Rattle.lookups.proofs.keep.renew_chains.Statement.{statement}
 use Rattle.lookups.proofs.keep.renew_chains.Tie as tie
 
@@ -14,14 +15,21 @@ abbrev Inv-loop : tie.InvT-loop
 Inv-loop t last chains₀ fresh₀ v₀ chains fresh v =
     (v ≤ 256) × (length chains ≡ 256) × (length fresh ≡ 256) × Later v chains₀ chains
     × ((old : Table) → Same last old t → Exacts 256 (OnChains old) chains₀ → Deltas v OnChains old t chains fresh)
+    × Part v fresh chains
 
 abbrev μ-loop : tie.MeasureT-loop
 μ-loop t last chains₀ fresh₀ v₀ chains fresh v = 256 - v
 
 loop-holds : tie.Need-loop-holds Inv-loop μ-loop
 loop-holds c =
-    let a = c .before .args in
-    (search needs, c .before .pre .1, c .before .pre .2, λ w h. refl, λ old same x. deltas-none OnChains old (a .t .now) (a .chains .now) (a .fresh .now))
+    let a = c .before .args in (
+      search needs,
+      c .before .pre .1,
+      c .before .pre .2,
+      λ w h. refl,
+      λ old same x. deltas-none OnChains old (a .t .now) (a .chains .now) (a .fresh .now),
+      part-none (a .fresh .now) (a .chains .now),
+    )
 
 mul-before : tie.Need-mul-before Inv-loop μ-loop
 mul-before c = search needs
@@ -65,13 +73,15 @@ loop-again c =
       later-next (a .chains .now) (r .chains) (r .v) (w .result) (r .inv .3),
       λ old same x. deltas-renew OnChains old (a .t .now) (a .chains .now) (r .chains) (r .fresh) (r .v) (w .result) (c .without .result) h (r .inv .1)
           (r .inv .2) (c .without .ensures) (r .inv .3) x (w .ensures old same) (r .inv .4 old same x),
+      part-next (r .fresh) (r .chains) (r .v) (w .result) (getD (r .chains) (r .v) 0) (c .without .result) (omega (arith, h, r .inv .1))
+          (omega (arith, h, r .inv .2)) (c .without .ensures) (r .inv .5),
     )
 
 returns : tie.Need-returns Inv-loop μ-loop
 returns c =
     let r = c .before .loop in
     let l = c .loop-test .left in
-    ((λ old same x v h. r .inv .4 old same x v (omega arith)), (r .inv .1, r .inv .2))
+    ((λ old same x v h. r .inv .4 old same x v (omega arith)), (r .inv .1, r .inv .2, λ v m h o. r .inv .5 v m (omega arith) o))
 
 pub renew-chains-spec : {M : Type 1} → statement M
 renew-chains-spec =

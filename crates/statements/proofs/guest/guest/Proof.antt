@@ -8,7 +8,7 @@ use Rattle.rules.proofs.Sweep.{give-row, include-rows}
 use Rattle.rules.proofs.Resumes.{sweeps-resumes, resumes-both, resumes-none, within-on}
 use Rattle.program.specs.Program.{namesOf, statements, guestStatements, guestsStatements, returnsOf}
 use Rattle.statements.specs.Range.{Key}
-use Rattle.statements.proofs.Finds.{unions-at, keeping}
+use Rattle.statements.proofs.Finds.{unions-at, keeping-four}
 use Rattle.statements.proofs.Records.{resumes-one}
 use borrow.Author.Needs.{needs}
 use Rattle.statements.proofs.guest.guest.Statement.{statement}
@@ -39,8 +39,8 @@ load-class-requires c κs =
     let long : 2432 ≤ length (two .give-row2 .last .0) = omega (arith, e, start .pre .0) in
     (long, omega arith, omega arith, omega arith, omega arith, start .pre .6, start .pre .3)
 
-store-requires : tie.Need-store-requires
-store-requires c κs =
+store-class-requires : tie.Need-store-class-requires
+store-class-requires c κs =
     let three = c .before .before .before .before in
     let two = three .before .before .before .before in
     let one = two .before .before .before .before in
@@ -48,7 +48,7 @@ store-requires c κs =
     let e : length (three .load-class .last .0) ≡ length (start .args .t .now) =
     three .load-class .kept .0 ∙ two .give-row2 .ensures .reaches .same-length ∙ one .give-row .ensures .reaches .same-length in
     let long : 2432 ≤ length (three .load-class .last .0) = omega (arith, e, start .pre .0) in
-    (long, omega arith, omega arith, start .pre .5)
+    (long, omega arith, omega arith, omega arith, start .pre .5)
 
 slice-aggregate-call : tie.Need-slice-aggregate-call
 slice-aggregate-call c = search needs
@@ -60,9 +60,9 @@ call-requires c κs =
     let two = three .before .before .before .before in
     let one = two .before .before .before .before in
     let start = one .before .before .before .before .before .before in
-    let e : length (four .store .last .0) ≡ length (start .args .t .now) =
-    four .store .kept .0 ∙ three .load-class .kept .0 ∙ two .give-row2 .ensures .reaches .same-length ∙ one .give-row .ensures .reaches .same-length in
-    let long : 2432 ≤ length (four .store .last .0) = omega (arith, e, start .pre .0) in
+    let e : length (four .store-class .last .0) ≡ length (start .args .t .now) =
+    four .store-class .kept .0 ∙ three .load-class .kept .0 ∙ two .give-row2 .ensures .reaches .same-length ∙ one .give-row .ensures .reaches .same-length in
+    let long : 2432 ≤ length (four .store-class .last .0) = omega (arith, e, start .pre .0) in
     search needs
 
 slice-aggregate-make-new : tie.Need-slice-aggregate-make-new
@@ -77,7 +77,7 @@ make-new-requires c κs =
     let one = two .before .before .before .before in
     let start = one .before .before .before .before .before .before in
     let e : length (five .call .last .0) ≡ length (start .args .t .now) =
-    five .call .kept .0 ∙ four .store .kept .0 ∙ three .load-class .kept .0 ∙ two .give-row2 .ensures .reaches .same-length ∙ one .give-row .ensures .reaches .same-length in
+    five .call .kept .0 ∙ four .store-class .kept .0 ∙ three .load-class .kept .0 ∙ two .give-row2 .ensures .reaches .same-length ∙ one .give-row .ensures .reaches .same-length in
     let long : 2432 ≤ length (five .call .last .0) = omega (arith, e, start .pre .0) in (
       long,
       omega arith,
@@ -101,7 +101,7 @@ include-row-requires c κs =
     let one = two .before .before .before .before in
     let start = one .before .before .before .before .before .before in
     let e : length (six .make-new .last .0) ≡ length (start .args .t .now) =
-    six .make-new .kept .0 ∙ five .call .kept .0 ∙ four .store .kept .0 ∙ three .load-class .kept .0 ∙ two .give-row2 .ensures .reaches .same-length
+    six .make-new .kept .0 ∙ five .call .kept .0 ∙ four .store-class .kept .0 ∙ three .load-class .kept .0 ∙ two .give-row2 .ensures .reaches .same-length
     ∙ one .give-row .ensures .reaches .same-length in
     let long : 2432 ≤ length (six .make-new .last .0) = omega (arith, e, start .pre .0) in
     (long, omega arith, omega arith)
@@ -117,7 +117,7 @@ include-row-requires-2 c κs =
     let one = two .before .before .before .before in
     let start = one .before .before .before .before .before .before in
     let e : length (seven .include-row .last .0) ≡ length (start .args .t .now) =
-    seven .include-row .ensures .reaches .same-length ∙ six .make-new .kept .0 ∙ five .call .kept .0 ∙ four .store .kept .0 ∙ three .load-class .kept .0
+    seven .include-row .ensures .reaches .same-length ∙ six .make-new .kept .0 ∙ five .call .kept .0 ∙ four .store-class .kept .0 ∙ three .load-class .kept .0
     ∙ two .give-row2 .ensures .reaches .same-length ∙ one .give-row .ensures .reaches .same-length in
     let long : 2432 ≤ length (seven .include-row .last .0) = omega (arith, e, start .pre .0) in
     (long, omega arith, omega arith)
@@ -135,7 +135,7 @@ same-length c =
     let start = one .before .before .before .before .before .before in
     let e : length (eight .include-row2 .last .0) ≡ length (start .args .t .now) =
     eight .include-row2 .ensures .reaches .same-length ∙ seven .include-row .ensures .reaches .same-length ∙ six .make-new .kept .0 ∙ five .call .kept .0
-    ∙ four .store .kept .0 ∙ three .load-class .kept .0 ∙ two .give-row2 .ensures .reaches .same-length ∙ one .give-row .ensures .reaches .same-length in
+    ∙ four .store-class .kept .0 ∙ three .load-class .kept .0 ∙ two .give-row2 .ensures .reaches .same-length ∙ one .give-row .ensures .reaches .same-length in
     e
 
 returns : tie.Need-returns
@@ -161,8 +161,8 @@ returns c =
           let three = to-three .load-class .ensures p 128 (getD (a .classes .now) 0 0) old new key (laid .names 0 (omega arith))
           (unions-at 0 (a .classes .now) new (a .lower .now) 0 (omega arith) (view .low-unions)) (view .same) chained in-two in
           let in-three = within-on new in-two (three .reaches) in
-          let full-three = keeping (a .full .now) (resumes-both (resumes-both one two) three) full .1 in
-          let stored = to-four .store .ensures .0 p 128 old new (laid .flags-are) key (laid .names 0 (omega arith)) (view .same) in-three full-three in
+          let full-three = keeping-four 0 (a .classes .now) (a .lower-meets .now) (resumes-both (resumes-both one two) three) full in
+          let stored = to-four .store-class .ensures .0 p 128 0 (a .classes .now) old new (laid .flags-are) key (laid .names 0 (omega arith)) refl refl (view .same) in-three full-three in
           let four = stored .0 in
           let in-four = within-on new in-three (four .reaches) in
           let five = to-five .call .ensures p (a .flags .now) (a .classes .now) returned (replicate 6 1) 1 old new laid refl (view .same) (view .back) in-four in
@@ -174,9 +174,9 @@ returns c =
           let eight = sweeps-resumes in-seven (include-rows (variable 1) (variable 2371) (variable 1) (thrown 3) refl refl (to-eight .include-row2 .ensures)) in
           let rest = resumes-both five (resumes-both six (resumes-both resumes-none (resumes-both seven (resumes-one eight)))) in (
             resumes-both (resumes-both one two) (resumes-both three (resumes-both four rest)),
-            keeping (to-four .store .last .1 .0) rest (stored .1) .1,
+            keeping-four 0 (a .classes .now) (to-four .store-class .last .1 .0) rest (stored .1),
           ),
-      to-four .store .ensures .1,
+      to-four .store-class .ensures .1,
     )
 
 pub guest-spec : {M : Type 1} → statement M
@@ -189,7 +189,7 @@ guest-spec =
     give-row-requires
     give-row-requires-2
     load-class-requires
-    store-requires
+    store-class-requires
     slice-aggregate-call
     call-requires
     slice-aggregate-make-new

@@ -1,4 +1,5 @@
 -- The names of a key: the name itself, or the word of its class. Assumes nothing.
+use mathlib.Core.Path.{refl}
 use Prim.Native.Nat.{_-_, _≤_, _<_}
 use native.Mathlib.Omega.{arith}
 use borrow.Author.Tests.{lt-ltb, le-ltb}
@@ -20,7 +21,7 @@ returns c =
     let a = c .before .before .before .args in
     let e = c .before .before .wide .ensures .0 in
     let h : a .key < 128 = omega arith in
-    λ p named. rw (c .single .ensures, e, lt-ltb (a .key) 128 h) (listed-single (a .key))
+    (λ p named. rw (c .single .ensures, e, lt-ltb (a .key) 128 h) (listed-single (a .key)), λ i. absurd (omega (arith, h, i)))
 
 mul-result : tie.Need-mul-result
 mul-result c = search needs
@@ -35,7 +36,7 @@ returns-2 c =
     let e = c .before .before .wide .ensures .0 in
     let h : 128 ≤ a .key = omega arith in
     let i : a .key < 136 = c .before .before .before .pre .0 in
-    λ p named. rw (le-ltb (a .key) 128 h, e) (named (a .key - 128) (omega arith))
+    (λ p named. rw (le-ltb (a .key) 128 h, e) (named (a .key - 128) (omega arith)), λ _. rw e refl)
 
 pub names-by-spec : {M : Type 1} → statement M
 names-by-spec =

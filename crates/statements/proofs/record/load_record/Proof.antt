@@ -79,7 +79,7 @@ returns c =
     λ p old new named low high same deltas within.
     load-at p (y .wide .result) (x .wide2 .result) (getD b 3 0) (w .wide3 .result) (getD b 1 0) (getD b 2 0) (getD b 3 0) (getD b 4 0) (y .wide .ensures .0)
     (x .wide2 .ensures .0) refl (w .wide3 .ensures .0)
-    (loaded .load .ensures p (getD b 3 0) old new (start .pre .1 .1 .1 .1 .1 .0) (named-by .names-by .ensures p named) same
+    (loaded .load .ensures p (getD b 3 0) old new (start .pre .1 .1 .1 .1 .1 .0) (named-by .names-by .ensures .0 p named) same
     (deltas (x .wide2 .result) (x .wide2 .ensures .1)) within)
 
 mul-load-class : tie.Need-mul-load-class

@@ -26,10 +26,12 @@ copy-record-requires : tie.Need-copy-record-requires
 copy-record-requires c κs = let pre = c .before .before .before .before .pre in (pre .0, rw (c .before .match .keys5) at (pre .1))
 
 load-record-requires : tie.Need-load-record-requires
-load-record-requires c κs = let pre = c .before .before .before .before .pre in (pre .0, rw (c .before .match .keys6) at (pre .1), pre .4, pre .5, pre .7, pre .8)
+load-record-requires c κs = let pre = c .before .before .before .before .pre in (pre .0, rw (c .before .match .keys6) at (pre .1), pre .4, pre .5, pre .8, pre .9)
 
 store-record-requires : tie.Need-store-record-requires
-store-record-requires c κs = let pre = c .before .before .before .before .before .pre in (pre .0, rw (c .before .before .match .keys7) at (pre .1), pre .6)
+store-record-requires c κs =
+    let pre = c .before .before .before .before .before .before .pre in
+    (pre .0, rw (c .before .before .before .match .keys7) at (pre .1), pre .6, pre .7)
 
 make-record-requires : tie.Need-make-record-requires
 make-record-requires c κs = let pre = c .before .before .before .before .pre in (pre .0, rw (c .before .match .keys8) at (pre .1))
@@ -60,8 +62,8 @@ unfolding statementsOf namesOf returnsOf statements guestsStatements
 returns c =
     let start = c .before .before .before .before .before .before .before in (
       λ p returned old new laid view within f.
-          rw (c .before .before .before .before .match .keys1) (keeping (start .args .full .now) (sweeps-resumes within (variable-for (desk [] [] [] [] []) p (start .args .body .now) (c .before .before .variable-record .ensures))) f),
-      start .pre .6,
+          rw (c .before .before .before .before .match .keys1) (keeping (start .args .classes .now) (start .args .lower-meets .now) (start .args .upper-meets .now) (sweeps-resumes within (variable-for (desk [] [] [] [] []) p (start .args .body .now) (c .before .before .variable-record .ensures))) f),
+      (start .pre .6, start .pre .7),
     )
 
 same-length-2 : tie.Need-same-length-2
@@ -72,8 +74,8 @@ unfolding statementsOf namesOf returnsOf statements guestsStatements
 returns-2 c =
     let start = c .before .before .before .before .before .before .before in (
       λ p returned old new laid view within f.
-          rw (c .before .before .before .before .match .keys2) (keeping (start .args .full .now) (sweeps-resumes within (c .before .before .grant-record .ensures)) f),
-      start .pre .6,
+          rw (c .before .before .before .before .match .keys2) (keeping (start .args .classes .now) (start .args .lower-meets .now) (start .args .upper-meets .now) (sweeps-resumes within (c .before .before .grant-record .ensures)) f),
+      (start .pre .6, start .pre .7),
     )
 
 same-length-3 : tie.Need-same-length-3
@@ -84,8 +86,8 @@ unfolding statementsOf namesOf returnsOf statements guestsStatements
 returns-3 c =
     let start = c .before .before .before .before .before .before .before in (
       λ p returned old new laid view within f.
-          rw (c .before .before .before .before .match .keys3) (keeping (start .args .full .now) (sweeps-resumes within (c .before .before .property-record .ensures)) f),
-      start .pre .6,
+          rw (c .before .before .before .before .match .keys3) (keeping (start .args .classes .now) (start .args .lower-meets .now) (start .args .upper-meets .now) (sweeps-resumes within (c .before .before .property-record .ensures)) f),
+      (start .pre .6, start .pre .7),
     )
 
 same-length-4 : tie.Need-same-length-4
@@ -96,8 +98,8 @@ unfolding statementsOf namesOf returnsOf statements guestsStatements
 returns-4 c =
     let start = c .before .before .before .before .before .before .before in (
       λ p returned old new laid view within f.
-          rw (c .before .before .before .before .match .keys4) (keeping (start .args .full .now) (sweeps-resumes within (c .before .before .held-record .ensures)) f),
-      start .pre .6,
+          rw (c .before .before .before .before .match .keys4) (keeping (start .args .classes .now) (start .args .lower-meets .now) (start .args .upper-meets .now) (sweeps-resumes within (c .before .before .held-record .ensures)) f),
+      (start .pre .6, start .pre .7),
     )
 
 same-length-5 : tie.Need-same-length-5
@@ -108,8 +110,8 @@ unfolding statementsOf namesOf returnsOf statements guestsStatements
 returns-5 c =
     let start = c .before .before .before .before .before .before .before in (
       λ p returned old new laid view within f.
-          rw (c .before .before .before .before .match .keys5) (keeping (start .args .full .now) (sweeps-resumes within (c .before .before .copy-record .ensures)) f),
-      start .pre .6,
+          rw (c .before .before .before .before .match .keys5) (keeping (start .args .classes .now) (start .args .lower-meets .now) (start .args .upper-meets .now) (sweeps-resumes within (c .before .before .copy-record .ensures)) f),
+      (start .pre .6, start .pre .7),
     )
 
 same-length-6 : tie.Need-same-length-6
@@ -120,8 +122,8 @@ unfolding statementsOf namesOf returnsOf statements guestsStatements
 returns-6 c =
     let start = c .before .before .before .before .before .before .before in (
       λ p returned old new laid view within f.
-          rw (c .before .before .before .before .match .keys6) (keeping (start .args .full .now) (c .before .before .load-record .ensures p old new (laid .names) (view .low-unions) (view .high-unions) (view .same) (view .chained) within) f),
-      start .pre .6,
+          rw (c .before .before .before .before .match .keys6) (keeping (start .args .classes .now) (start .args .lower-meets .now) (start .args .upper-meets .now) (c .before .before .load-record .ensures p old new (laid .names) (view .low-unions) (view .high-unions) (view .same) (view .chained) within) f),
+      (start .pre .6, start .pre .7),
     )
 
 same-length-7 : tie.Need-same-length-7
@@ -132,7 +134,7 @@ unfolding statementsOf namesOf returnsOf statements guestsStatements
 returns-7 c =
     let stored = c .before .before .store-record in (
       λ p returned old new laid view within f.
-          rw (c .before .before .before .before .before .match .keys7) (stored .ensures .0 p old new (laid .names) (laid .flags-are) (view .same) within f),
+          rw (c .before .before .before .before .before .before .match .keys7) (stored .ensures .0 p old new (laid .names) (laid .flags-are) (view .same) within f),
       stored .ensures .1,
     )
 
@@ -144,8 +146,8 @@ unfolding statementsOf namesOf returnsOf statements guestsStatements
 returns-8 c =
     let start = c .before .before .before .before .before .before .before in (
       λ p returned old new laid view within f.
-          rw (c .before .before .before .before .match .keys8) (keeping (start .args .full .now) (sweeps-resumes within (c .before .before .make-record .ensures)) f),
-      start .pre .6,
+          rw (c .before .before .before .before .match .keys8) (keeping (start .args .classes .now) (start .args .lower-meets .now) (start .args .upper-meets .now) (sweeps-resumes within (c .before .before .make-record .ensures)) f),
+      (start .pre .6, start .pre .7),
     )
 
 same-length-9 : tie.Need-same-length-9
@@ -156,8 +158,8 @@ unfolding statementsOf namesOf returnsOf statements guestsStatements
 returns-9 c =
     let start = c .before .before .before .before .before .before .before in (
       λ p returned old new laid view within f.
-          rw (c .before .before .before .before .match .keys9) (keeping (start .args .full .now) (sweeps-resumes within (c .before .before .function-record .ensures)) f),
-      start .pre .6,
+          rw (c .before .before .before .before .match .keys9) (keeping (start .args .classes .now) (start .args .lower-meets .now) (start .args .upper-meets .now) (sweeps-resumes within (c .before .before .function-record .ensures)) f),
+      (start .pre .6, start .pre .7),
     )
 
 same-length-10 : tie.Need-same-length-10
@@ -168,8 +170,8 @@ unfolding statementsOf namesOf returnsOf statements guestsStatements
 returns-10 c =
     let start = c .before .before .before .before .before .before .before in (
       λ p returned old new laid view within f.
-          rw (c .before .before .before .before .match .keys10) (keeping (start .args .full .now) (c .before .before .call-record .ensures p (start .args .flags .now) (start .args .classes .now) returned old new laid (view .same) (view .back) within) f),
-      start .pre .6,
+          rw (c .before .before .before .before .match .keys10) (keeping (start .args .classes .now) (start .args .lower-meets .now) (start .args .upper-meets .now) (c .before .before .call-record .ensures p (start .args .flags .now) (start .args .classes .now) returned old new laid (view .same) (view .back) within) f),
+      (start .pre .6, start .pre .7),
     )
 
 same-length-11 : tie.Need-same-length-11
@@ -180,15 +182,15 @@ unfolding statementsOf namesOf returnsOf statements guestsStatements
 returns-11 c =
     let start = c .before .before .before .before .before .before .before in (
       λ p returned old new laid view within f.
-          rw (c .before .before .before .before .match .keys11) (keeping (start .args .full .now) (c .before .before .new-record .ensures p (start .args .flags .now) (start .args .classes .now) returned old new laid (view .same) (view .chained) (view .back) within) f),
-      start .pre .6,
+          rw (c .before .before .before .before .match .keys11) (keeping (start .args .classes .now) (start .args .lower-meets .now) (start .args .upper-meets .now) (c .before .before .new-record .ensures p (start .args .flags .now) (start .args .classes .now) returned old new laid (view .same) (view .chained) (view .back) within) f),
+      (start .pre .6, start .pre .7),
     )
 
 returns-12 : tie.Need-returns-12
 unfolding statementsOf namesOf returnsOf statements guestsStatements
 returns-12 c =
     let start = c .before .before .before in
-    (λ p returned old new laid view within f. rw (c .match .keys12) (keeping (start .args .full .now) (resumes-one resumes-none) f), start .pre .6)
+    (λ p returned old new laid view within f. rw (c .match .keys12) (keeping (start .args .classes .now) (start .args .lower-meets .now) (start .args .upper-meets .now) (resumes-one resumes-none) f), (start .pre .6, start .pre .7))
 
 same-length-12 : tie.Need-same-length-12
 same-length-12 c = search needs
@@ -198,8 +200,8 @@ unfolding statementsOf namesOf returnsOf statements guestsStatements
 returns-13 c =
     let start = c .before .before .before .before .before .before .before in (
       λ p returned old new laid view within f.
-          rw (c .before .before .before .before .match .keys13) (keeping (start .args .full .now) (sweeps-resumes within (c .before .before .throw-record .ensures)) f),
-      start .pre .6,
+          rw (c .before .before .before .before .match .keys13) (keeping (start .args .classes .now) (start .args .lower-meets .now) (start .args .upper-meets .now) (sweeps-resumes within (c .before .before .throw-record .ensures)) f),
+      (start .pre .6, start .pre .7),
     )
 
 same-length-13 : tie.Need-same-length-13
@@ -210,8 +212,8 @@ unfolding statementsOf namesOf returnsOf statements guestsStatements
 returns-14 c =
     let start = c .before .before .before .before .before .before .before in (
       λ p returned old new laid view within f.
-          rw (c .before .before .before .before .match .keys14) (keeping (start .args .full .now) (sweeps-resumes within (c .before .before .catch-record .ensures)) f),
-      start .pre .6,
+          rw (c .before .before .before .before .match .keys14) (keeping (start .args .classes .now) (start .args .lower-meets .now) (start .args .upper-meets .now) (sweeps-resumes within (c .before .before .catch-record .ensures)) f),
+      (start .pre .6, start .pre .7),
     )
 
 same-length-14 : tie.Need-same-length-14
@@ -222,8 +224,8 @@ unfolding statementsOf namesOf returnsOf statements guestsStatements
 returns-15 c =
     let start = c .before .before .before .before .before .before .before in (
       λ p returned old new laid view within f.
-          rw (c .before .before .before .before .match .keys15) (keeping (start .args .full .now) (c .before .before .prim-record .ensures p (start .args .flags .now) (start .args .classes .now) returned old new laid (view .same) (view .found) within) f),
-      start .pre .6,
+          rw (c .before .before .before .before .match .keys15) (keeping (start .args .classes .now) (start .args .lower-meets .now) (start .args .upper-meets .now) (c .before .before .prim-record .ensures p (start .args .flags .now) (start .args .classes .now) returned old new laid (view .same) (view .found) within) f),
+      (start .pre .6, start .pre .7),
     )
 
 returns-16 : tie.Need-returns-16
@@ -232,8 +234,8 @@ returns-16 c =
     let a = start .args in
     let r = c .match .rest in (
       λ p returned old new laid view within f.
-          rw (silent p (a .kind) (a .body .now) (r .0 .0 .0 .0 .0 .0 .0 .0 .0 .0 .0 .0 .0 .0 .1) (r .0 .0 .0 .0 .0 .0 .0 .0 .0 .0 .0 .0 .0 .1) (r .0 .0 .0 .0 .0 .0 .0 .0 .0 .0 .0 .0 .1) (r .0 .0 .0 .0 .0 .0 .0 .0 .0 .0 .0 .1) (r .0 .0 .0 .0 .0 .0 .0 .0 .0 .0 .1) (r .0 .0 .0 .0 .0 .0 .0 .0 .0 .1) (r .0 .0 .0 .0 .0 .0 .0 .0 .1) (r .0 .0 .0 .0 .0 .0 .0 .1) (r .0 .0 .0 .0 .0 .0 .1) (r .0 .0 .0 .0 .0 .1) (r .0 .0 .0 .0 .1) (r .0 .0 .0 .1) (r .0 .0 .1) (r .0 .1) (r .1)) (keeping (a .full .now) resumes-none f),
-      start .pre .6,
+          rw (silent p (a .kind) (a .body .now) (r .0 .0 .0 .0 .0 .0 .0 .0 .0 .0 .0 .0 .0 .0 .1) (r .0 .0 .0 .0 .0 .0 .0 .0 .0 .0 .0 .0 .0 .1) (r .0 .0 .0 .0 .0 .0 .0 .0 .0 .0 .0 .0 .1) (r .0 .0 .0 .0 .0 .0 .0 .0 .0 .0 .0 .1) (r .0 .0 .0 .0 .0 .0 .0 .0 .0 .0 .1) (r .0 .0 .0 .0 .0 .0 .0 .0 .0 .1) (r .0 .0 .0 .0 .0 .0 .0 .0 .1) (r .0 .0 .0 .0 .0 .0 .0 .1) (r .0 .0 .0 .0 .0 .0 .1) (r .0 .0 .0 .0 .0 .1) (r .0 .0 .0 .0 .1) (r .0 .0 .0 .1) (r .0 .0 .1) (r .0 .1) (r .1)) (keeping (a .classes .now) (a .lower-meets .now) (a .upper-meets .now) resumes-none f),
+      (start .pre .6, start .pre .7),
     )
 
 pub statement-spec : {M : Type 1} → statement M

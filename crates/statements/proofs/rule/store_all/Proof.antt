@@ -3,11 +3,10 @@ use Rattle.program.specs.Program.{namesOf}
 use borrow.Author.Needs.{needs}
 use mathlib.Core.Path.{_≡_, refl, _∙_}
 use mathlib.Core.Bool.{not}
-use Prim.Native.Nat.{ℕ, _-_, _<_}
+use Prim.Native.Nat.{_-_}
 use native.Mathlib.Omega.{arith}
 use lib.ListN.{length, getD}
 use lib.Dec.{eqb}
-use Rattle.words.proofs.Bits.{On}
 use Rattle.words.proofs.Onward.{Ahead, ahead-first, ahead-some, ahead-next, ahead-less}
 use Rattle.rows.specs.Row.{variable, property}
 use Rattle.rules.specs.Rule.{include, over, when}
@@ -15,20 +14,17 @@ use Rattle.rules.specs.Round.{labels}
 use Rattle.rules.specs.Sweep.{Sweeps}
 use Rattle.rules.proofs.Loop.{each-end}
 use Rattle.tables.proofs.Loops.{each-first, each-next}
-use Rattle.lookups.specs.Kept.{Full}
-use Rattle.statements.proofs.Finds.{names-below, store-named}
+use Rattle.statements.proofs.Finds.{store-named}
 use Rattle.statements.proofs.rule.store_all.Statement.{statement}
 use Rattle.statements.proofs.rule.store_all.Tie as tie
 
 abbrev Inv-loop : tie.InvT-loop
-Inv-loop t₀ full₀ flags names x a w grew₀ rest₀ l₀ t full grew rest l =
-    (length t ≡ length t₀) × (length full ≡ 64) × Ahead w l rest
-    × (Full t₀ full₀ → ((n : ℕ) → On names n → n < 32)
-    → Sweeps 64 (over (labels l w) (λ m. when (not (eqb (getD flags m 0) 1)) (over (labels 64 names) (λ n. include (property m n) (variable a))))) t₀ t grew
-    × Full t full)
+Inv-loop t₀ flags names x a w grew₀ rest₀ l₀ t grew rest l =
+    (length t ≡ length t₀) × Ahead w l rest
+    × Sweeps 64 (over (labels l w) (λ m. when (not (eqb (getD flags m 0) 1)) (over (labels 64 names) (λ n. include (property m n) (variable a))))) t₀ t grew
 
 abbrev μ-loop : tie.MeasureT-loop
-μ-loop t₀ full₀ flags names x a w grew₀ rest₀ l₀ t full grew rest l = 64 - l
+μ-loop t₀ flags names x a w grew₀ rest₀ l₀ t grew rest l = 64 - l
 
 mul-w : tie.Need-mul-w Inv-loop μ-loop
 mul-w c = search needs
@@ -40,7 +36,7 @@ first-requires : tie.Need-first-requires Inv-loop μ-loop
 first-requires c κs = search needs
 
 loop-holds : tie.Need-loop-holds Inv-loop μ-loop
-loop-holds c = let n = c .first .ensures in (refl, c .before .before .before .pre .3, ahead-first n, λ f below. (each-first _ _ n, f))
+loop-holds c = let n = c .first .ensures in (refl, ahead-first n, each-first _ _ n)
 
 element-copy-out-store-at : tie.Need-element-copy-out-store-at Inv-loop μ-loop
 element-copy-out-store-at c = search needs
@@ -60,17 +56,10 @@ loop-less c = search (needs, ahead-less)
 loop-again : tie.Need-loop-again Inv-loop μ-loop
 loop-again c =
     let at = c .before .before .before .before in
-    let in-loop = at .before .before .before .before in
+    let in-loop = at .before .before .before in
     let r = in-loop .before .loop in
-    let n = ahead-next (r .inv .2) (in-loop .loop-test .taken) (c .before .rest .ensures) (c .first2 .ensures) in (
-      at .store-at .kept .0 ∙ r .inv .0,
-      at .store-at .ensures .1,
-      n .ahead,
-      λ f below.
-          let so-far = r .inv .3 f below in
-          let one-more = at .store-at .ensures .0 (so-far .1) below in
-          (each-next _ _ _ (n .on) (n .next) (so-far .0) (one-more .0), one-more .1),
-    )
+    let n = ahead-next (r .inv .1) (in-loop .loop-test .taken) (c .before .rest .ensures) (c .first2 .ensures) in
+    (at .store-at .kept .0 ∙ r .inv .0, n .ahead, each-next _ _ _ (n .on) (n .next) (r .inv .2) (at .store-at .ensures))
 
 same-length : tie.Need-same-length Inv-loop μ-loop
 same-length c = search needs
@@ -81,15 +70,9 @@ returns c =
     let start = c .before .before .before .before in
     let a = start .before .args in
     let e : c .before .loop .l ≡ 64 = omega arith in
-    let inv = c .before .loop .inv in (
-      λ p key flags k listed f.
-          let done = inv .3 f (λ n o. names-below p key k n (listed .source n o)) in (
-            store-named p (a .x) key (a .a) (a .names) listed (search needs)
-                (rw flags (each-end (variable (a .x)) (λ i. start .slice-known .given i .fits) (rw e at (done .0)))),
-            done .1,
-          ),
-      inv .1,
-    )
+    λ p key flags k listed.
+    store-named p (a .x) key (a .a) (a .names) listed (search needs)
+    (rw flags (each-end (variable (a .x)) (λ i. start .slice-known .given i .fits) (rw e at (c .before .loop .inv .2))))
 
 pub store-all-spec : {M : Type 1} → statement M
 store-all-spec =

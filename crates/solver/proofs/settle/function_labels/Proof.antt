@@ -7,8 +7,8 @@ use native.Mathlib.Omega.{arith}
 use lib.ListN.{getD}
 use Rattle.words.proofs.Bits.{On}
 use Rattle.solver.proofs.Functions.{Functions, functions-none, functions-on, functions-off}
-use Rattle.solver.proofs.pass.function_labels.Statement.{statement}
-use Rattle.solver.proofs.pass.function_labels.Tie as tie
+use Rattle.solver.proofs.settle.function_labels.Statement.{statement}
+use Rattle.solver.proofs.settle.function_labels.Tie as tie
 
 abbrev Inv-loop : tie.InvT-loop
 Inv-loop types all₀ l₀ all l = (l ≤ 64) × Functions types l all

@@ -1,0 +1,2 @@
+-- The laws of walking over a file. Assumes nothing.
+pub mod Walk

@@ -1,0 +1,124 @@
+-- Walking over the records of a readable file: at each turn what is left of the bytes is the records left, written out. Assumes nothing.
+use mathlib.Core.Path.{_≡_, refl, sym, ap, _∙_, subst}
+use mathlib.Core.List.{List, [], _∷_, _++_, append-assoc, List·Memᴰ, List·Memᴰ·head, List·Memᴰ·tail}
+use Prim.Native.Nat.{ℕ, suc, _+_, _-_, _≤_, _<_}
+use native.Mathlib.Numerals.{add-one}
+use native.Mathlib.Decide.{ℕ-discrete, decLt}
+use native.Mathlib.Omega.{arith}
+use lib.ListN.{length, getD, set, take, drop, length-drop, length-append}
+use lib.Seq.{getD-set-same, getD-set-other, drop-cons, drop-drop, take-at, drop-at}
+use Rattle.layout.specs.Layout.{bodyLength}
+use Rattle.layout.proofs.Table.{no-kind}
+use Rattle.format.specs.Records.{Record}
+use Rattle.format.specs.Reading.{Reading, readFile, Readable, written, positioned}
+use Rattle.format.proofs.File.{Read, readable-read, read-is}
+use Rattle.format.proofs.Ready.{Made}
+use Rattle.format.proofs.Readable.{readable-ready}
+use Rattle.statements.specs.Range.{InRange}
+use Rattle.statements.proofs.Ranges.{fits-in-range}
+use Rattle.hints.specs.Walk.{Sound, AllSound, Walk}
+
+all-sound : (at : ℕ) (rs : List Record) → ((a : ℕ) (r : Record) → List·Memᴰ (a, r) (positioned at rs) → Sound r) → AllSound rs
+unfolding positioned
+all-sound at [] h = tt
+all-sound at (r ∷ rs) h = (h at r (List·Memᴰ·head refl), all-sound (at + 1 + length (r .body)) rs (λ a q i. h a q (List·Memᴰ·tail i)))
+
+pub walk-first : (file : List ℕ) → Readable 64 file → Walk file 0
+walk-first file ok =
+    record {
+      done = [];
+      rest = r .whole .records;
+      whole = records;
+      bytes = r .whole .bytes;
+      within = omega arith;
+      sound = all-sound 0 (r .whole .records) (λ a q i.
+          let f = m .all-fit a q (subst (λ (ps : List (ℕ × Record)). List·Memᴰ (a, q) ps) (sym records) i) in
+          (f .0, fits-in-range (readFile 64 file .sheet) (m .sized) (q .kind) (q .body) (f .1)));
+    }
+  where
+    r : Read 64 file
+    r = readable-read 64 file ok
+
+    m : Made 64 (readFile 64 file .sheet) (readFile 64 file .records)
+    m = readable-ready 64 file (omega arith) ok .made
+
+    records : readFile 64 file .records ≡ positioned 0 (r .whole .records)
+    records = ap (λ (d : Reading). d .records) (read-is 64 file r)
+
+pub first-done : (file : List ℕ) (ok : Readable 64 file) → walk-first file ok .done ≡ []
+unfolding walk-first
+first-done file ok = refl
+
+-- one more position where a record begins
+pub more-starts : {file : List ℕ} (starts : List ℕ) (i at : ℕ) → i < length starts → Walk file at
+    → ((b : ℕ) → b < 256 → Walk file (getD starts b 0)) → (b : ℕ) → b < 256 → Walk file (getD (set starts i at) b 0)
+more-starts {file} starts i at h w each b k = go (ℕ-discrete b i)
+  where
+    go : Dec (b ≡ i) → Walk file (getD (set starts i at) b 0)
+    go (yes e) = rw (e, getD-set-same starts i at 0 h) w
+    go (no d) = rw (getD-set-other starts i b at 0 d) (each b k)
+
+-- the record at the front of the bytes left
+pub record Head (file : List ℕ) (at : ℕ) (rest : List Record) : Type 0 where
+  pub front : Record
+  pub others : List Record
+  pub parts : rest ≡ front ∷ others
+  pub kind : getD file at 0 ≡ front .kind
+  pub after : drop (suc at) file ≡ front .body ++ written others
+  pub sound : Sound front
+  pub more : AllSound others
+
+head : (file : List ℕ) (at : ℕ) (rest : List Record) → drop at file ≡ written rest → AllSound rest → at < length file → Head file at rest
+unfolding written
+head file at [] e s h = absurd (omega (arith, length-drop at file, ap length e))
+head file at (r ∷ rs) e s h =
+    let d : getD file at 0 ∷ drop (suc at) file ≡ r .kind ∷ (r .body ++ written rs) = sym (drop-cons file at 0 h) ∙ e in
+    record { front = r; others = rs; parts = refl; kind = (cc); after = (cc); sound = s .0; more = s .1 }
+
+module _ {file : List ℕ} {at : ℕ} (w : Walk file at) (h : at < length file) where
+  pub here : Head file at (w .rest)
+  here = head file at (w .rest) (w .bytes) (w .sound) h
+
+  size : length (here .front .body) ≡ bodyLength (getD file at 0)
+  size = here .sound .1 .0 ∙ ap bodyLength (sym (here .kind))
+
+  pub walk-known : getD file at 0 < 27
+  walk-known = go (decLt (getD file at 0) 27)
+    where
+      go : Dec (getD file at 0 < 27) → getD file at 0 < 27
+      go (yes i) = i
+      go (no i) = absurd (omega (arith, here .sound .0, ap bodyLength (here .kind), no-kind (getD file at 0) (omega arith)))
+
+  pub walk-room : at + 1 + bodyLength (getD file at 0) ≤ length file
+  walk-room =
+      omega (arith, size, length-drop (suc at) file, ap length (here .after), length-append (here .front .body) (written (here .others)))
+
+  module _ (n : ℕ) (e : n ≡ bodyLength (getD file at 0)) where
+    pub walk-body : take (at + 1 + n - (at + 1)) (drop (at + 1) file) ≡ here .front .body
+    walk-body =
+        let q : at + 1 + n - (at + 1) ≡ n = omega arith in
+        rw (q, add-one, here .after) (take-at (here .front .body) (written (here .others)) n (size ∙ sym e))
+
+    pub walk-range : InRange (getD file at 0) (take (at + 1 + n - (at + 1)) (drop (at + 1) file))
+    walk-range = rw (walk-body, here .kind) (here .sound .1)
+
+    left : drop (at + 1 + n) file ≡ written (here .others)
+    left =
+        let q : at + 1 + n ≡ suc at + n = omega arith in
+        rw (q, ← drop-drop n (suc at) file, here .after) (drop-at (here .front .body) (written (here .others)) n (size ∙ sym e))
+
+    pub walk-next : Walk file (at + 1 + n)
+    walk-next =
+        record {
+          done = w .done ++ (here .front ∷ []);
+          rest = here .others;
+          whole = w .whole ∙ ap (λ (rs : List Record). positioned 0 (w .done ++ rs)) (here .parts)
+              ∙ ap (positioned 0) (sym (append-assoc (w .done) (here .front ∷ []) (here .others)));
+          bytes = left;
+          within = omega (arith, walk-room, e);
+          sound = here .more;
+        }
+
+    pub next-done : walk-next .done ≡ w .done ++ (here .front ∷ [])
+    unfolding walk-next
+    next-done = refl

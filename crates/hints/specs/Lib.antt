@@ -1,0 +1,2 @@
+-- What the hints promise.
+pub mod Walk

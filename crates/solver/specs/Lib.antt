@@ -1,0 +1,2 @@
+-- What the solver keeps between passes.
+pub mod Behind
