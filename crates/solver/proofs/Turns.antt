@@ -1,17 +1,15 @@
--- What is known between passes, from one pass to the next. Assumes nothing.
-use mathlib.Core.Path.{_≡_, refl, sym, subst}
-use mathlib.Core.Logic.{inr}
+-- Quick passes: what is known between passes, from one to the next. Assumes nothing.
+use mathlib.Core.Path.{_≡_, sym, subst}
 use mathlib.Core.List.{List}
 use Prim.Native.Nat.{ℕ, zero, suc, _^_, _<_}
 use native.Mathlib.Decide.{ℕ-discrete}
 use native.Mathlib.Omega.{arith}
-use lib.ListN.{getD, replicate, getD-replicate}
 use Rattle.words.specs.Words.{union}
-use Rattle.words.proofs.Bits.{On, empty-off, on-left, on-right, on-single}
+use Rattle.words.proofs.Bits.{On, on-left, on-right, on-single}
 use Rattle.rules.specs.Table.{Table, Within}
 use Rattle.rules.specs.Rule.{Rule}
 use Rattle.rules.specs.Sweep.{Reaches}
-use Rattle.lookups.specs.Kept.{Same, OnChains, Method, Deltas, Returned, Fulls, Sizes}
+use Rattle.lookups.specs.Kept.{Same, Returned, Fulls, Sizes}
 use Rattle.statements.specs.View.{View}
 use Rattle.solver.specs.Behind.{Behind}
 
@@ -29,21 +27,7 @@ every-on (suc k) m h = go (every-on k m) (ℕ-discrete m k)
     go f (yes e) = on-right (every k) (2 ^ k) m (rw e (on-single k))
     go f (no n) = on-left (every k) (2 ^ k) m (f (omega (arith, n)))
 
--- ---- words of zeros hold nothing
-
-pub none-at : (n v m : ℕ) → v < n → On (getD (replicate n 0) v 0) m → ⊥
-none-at n v m h o = empty-off m (subst (λ (w : ℕ). On w m) (getD-replicate n v 0 0 h) o)
-
-deltas-still : (n : ℕ) (S : Table → ℕ → ℕ → Type 0) (old t : Table) (words fresh : List ℕ) → Deltas n S old t words fresh
-    → Deltas n S t t words (replicate n 0)
-deltas-still n S old t words fresh d v h =
-    record {
-      exact = d v h .exact;
-      known = λ m o. inr (d v h .exact .sound m o);
-      part = λ m o. absurd (none-at n v m h o);
-    }
-
--- ---- from pass to pass
+-- ---- from one quick pass to the next
 
 module _ {base t u : Table} {returned classes last last′ chains fresh methods added lower upper handed : List ℕ} {stirred stale : ℕ}
     (v : View base t returned classes last chains fresh methods added lower upper handed stirred stale) (w : Within t u) (e : Same last′ t u) where
@@ -60,21 +44,6 @@ module _ {base t u : Table} {returned classes last last′ chains fresh methods 
         low-unions = v .low-unions;
         high-unions = v .high-unions;
         back = subst (λ (s : ℕ). Returned returned base t handed s) (sym q) (v .back);
-      }
-
-  -- after a whole pass they do not
-  pub behind-whole : Behind t t u returned classes last′ chains methods lower upper handed (replicate 38 0) (replicate 256 0) (replicate 256 0) 0
-  behind-whole =
-      record {
-        based = λ r l h. h;
-        within = w;
-        same = e;
-        all-same = λ r h n. refl;
-        chained = deltas-still 256 OnChains base t chains fresh (v .chained);
-        found = deltas-still 256 Method base t methods added (v .found);
-        low-unions = v .low-unions;
-        high-unions = v .high-unions;
-        back = record { exact = v .back .exact; known = λ f l h o. inr (v .back .exact f h .sound l o) };
       }
 
 -- ---- how far quick passes have come
