@@ -1,4 +1,5 @@
 -- Laws of the notes and of the words kept. Assumes nothing.
+pub mod Totals
 pub mod Notes
 pub mod Looks
 pub mod Keeps

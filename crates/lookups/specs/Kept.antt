@@ -5,7 +5,7 @@
 use mathlib.Core.Path.{_≡_}
 use mathlib.Core.Logic.{_⊎_}
 use mathlib.Core.List.{List}
-use Prim.Native.Nat.{ℕ, _+_, _*_, _/_, _%_, _<_}
+use Prim.Native.Nat.{ℕ, zero, suc, _+_, _*_, _/_, _%_, _<_}
 use lib.ListN.{getD}
 use Rattle.words.specs.Words.{bit, countBelow}
 use Rattle.rules.specs.Table.{Table, Has}
@@ -89,10 +89,16 @@ Full first classes t full = (v n l : ℕ) → v < 256 → n < 32 → bit (getD c
 abbrev pub Fulls : List ℕ → Table → List ℕ → List ℕ → Type 0
 Fulls classes t lower upper = Full 0 classes t lower × Full 4 classes t upper
 
--- the number of labels in each row, in two arrays
-pub record Sizes (t : Table) (low high : List ℕ) : Type 0 where
+-- the parts of n rows from row `at` on, above and below bit 7, added up: more where one of them grows
+unfoldable pub total : Table → ℕ → ℕ → ℕ
+total t at zero = 0
+total t at (suc n) = total t at n + (getD t (at + n) 0 / 128 + getD t (at + n) 0 % 128)
+
+-- the number of labels in each row, in two arrays, and the total of each 64 rows
+pub record Sizes (t : Table) (low high totals : List ℕ) : Type 0 where
   pub low-rows : (r : ℕ) → r < 2048 → getD low r 0 ≡ countBelow (getD t r 0) 64
   pub high-rows : (r : ℕ) → r < 384 → getD high r 0 ≡ countBelow (getD t (2048 + r) 0) 64
+  pub totals-are : (w : ℕ) → w < 38 → getD totals w 0 ≡ total t (64 * w) 64
 
 -- what is found under the names in the properties of the labels `chains`: r has nothing else, and all that is in a property of a fresh label, or in
 -- a noted one

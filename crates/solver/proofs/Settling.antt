@@ -20,16 +20,17 @@ use Rattle.rules.proofs.Sweep.{reaches-itself, reaches-on, reaches-for, reaches
 use Rattle.rules.proofs.Resumes.{resumes-closed}
 use Rattle.lookups.specs.Kept.{Same, OnChains, Method, HandedBack, Joined, Exact, Exacts, Delta, Returned, Fulls, Sizes}
 use Rattle.lookups.proofs.Fulls.{fulls-none}
+use Rattle.lookups.proofs.Totals.{total-empty}
 use Rattle.statements.specs.View.{View}
 use Rattle.solver.specs.Behind.{Behind}
 
-pub record Settling (rule : Rule) (returned classes : List ℕ) (first t : Table) (again : Bool) (low high last chains methods lower upper handed lowerMeets upperMeets allLast allFresh allAdded : List ℕ) (allStale : ℕ) : Type 0 where
+pub record Settling (rule : Rule) (returned classes : List ℕ) (first t : Table) (again : Bool) (low high totals last chains methods lower upper handed lowerMeets upperMeets allLast allFresh allAdded : List ℕ) (allStale : ℕ) : Type 0 where
   pub base : Table
   pub old : Table
   pub reaches : Reaches 64 rule first t
   pub drawn : Draws 64 base t rule
   pub closed : again ≡ false → Closed 64 t rule
-  pub sizes : Sizes t low high
+  pub sizes : Sizes t low high totals
   pub held : Fulls classes t lowerMeets upperMeets
   pub behind : Behind base old t returned classes last chains methods lower upper handed allLast allFresh allAdded allStale
 
@@ -65,7 +66,7 @@ unions-none : (first : ℕ) (classes : List ℕ) → Exacts 256 (Joined first cl
 unions-none first classes v h = exact-none 256 v (Joined first classes [] v) h (λ x g. nothing (256 + 32 * (v % 64) + g .0) x (g .2))
 
 pub settling-first : (rule : Rule) (returned classes : List ℕ) (t : Table) → ((r : ℕ) → r < 2432 → getD t r 0 ≡ 0)
-    → Settling rule returned classes t t true (replicate 2048 0) (replicate 384 0) (replicate 38 0) (replicate 256 0) (replicate 256 0) (replicate 256 0)
+    → Settling rule returned classes t t true (replicate 2048 0) (replicate 384 0) (replicate 38 0) (replicate 38 0) (replicate 256 0) (replicate 256 0) (replicate 256 0)
     (replicate 256 0) (replicate 64 0) (replicate 256 0) (replicate 256 0) (replicate 38 0) (replicate 256 0) (replicate 256 0) 0
 settling-first rule returned classes t zeros =
     record {
@@ -77,6 +78,7 @@ settling-first rule returned classes t zeros =
       sizes = record {
         low-rows = λ r h. size-none 2048 r (getD t r 0) h (zeros r (omega arith));
         high-rows = λ r h. size-none 384 r (getD t (2048 + r) 0) h (zeros (2048 + r) (omega arith));
+        totals-are = λ w h. getD-replicate 38 w 0 0 h ∙ sym (total-empty t (64 * w) 64 (λ i j. zeros (64 * w + i) (omega arith)));
       };
       held = fulls-none classes t;
       behind = record {
@@ -123,11 +125,11 @@ pub quick-still : {grew : Bool} {u v : Table} (on : Bool) → (grew && on ≡ fa
 quick-still on f e = f (rw e refl)
 
 -- a whole pass from t to u, and quick ones from u to v
-pub settling-next : {rule : Rule} {returned classes : List ℕ} {first t u v later : Table} {again grew : Bool} {low high last chains methods lower upper handed lowerMeets upperMeets allLast allFresh allAdded low′ high′ last′ chains′ methods′ lower′ upper′ handed′ lowerMeets′ upperMeets′ allLast′ allFresh′ allAdded′ : List ℕ} {allStale allStale′ : ℕ}
-    (s : Settling rule returned classes first t again low high last chains methods lower upper handed lowerMeets upperMeets allLast allFresh allAdded allStale)
-    → Resumes 64 rule (s .base) t t u grew → Reaches 64 rule u v → (grew ≡ false → v ≡ u) → Sizes v low′ high′ → Fulls classes v lowerMeets′ upperMeets′
+pub settling-next : {rule : Rule} {returned classes : List ℕ} {first t u v later : Table} {again grew : Bool} {low high totals last chains methods lower upper handed lowerMeets upperMeets allLast allFresh allAdded low′ high′ totals′ last′ chains′ methods′ lower′ upper′ handed′ lowerMeets′ upperMeets′ allLast′ allFresh′ allAdded′ : List ℕ} {allStale allStale′ : ℕ}
+    (s : Settling rule returned classes first t again low high totals last chains methods lower upper handed lowerMeets upperMeets allLast allFresh allAdded allStale)
+    → Resumes 64 rule (s .base) t t u grew → Reaches 64 rule u v → (grew ≡ false → v ≡ u) → Sizes v low′ high′ totals′ → Fulls classes v lowerMeets′ upperMeets′
     → Behind t later v returned classes last′ chains′ methods′ lower′ upper′ handed′ allLast′ allFresh′ allAdded′ allStale′
-    → Settling rule returned classes first v grew low′ high′ last′ chains′ methods′ lower′ upper′ handed′ lowerMeets′ upperMeets′ allLast′ allFresh′ allAdded′ allStale′
+    → Settling rule returned classes first v grew low′ high′ totals′ last′ chains′ methods′ lower′ upper′ handed′ lowerMeets′ upperMeets′ allLast′ allFresh′ allAdded′ allStale′
 settling-next {rule} {returned} {classes} {first} {t} {u} {v} {later} s r q still z f b =
     record {
       base = t;
@@ -151,9 +153,9 @@ turn-left {rule} {old} {new} {t} {u} {again} {grew} v e s k = rw e (go grew refl
     go false g = omega arith
 
 -- the end, for a rule with the same closed tables
-pub settling-least : {rule : Rule} {returned classes : List ℕ} {first t : Table} {again : Bool} {low high last chains methods lower upper handed lowerMeets upperMeets allLast allFresh allAdded : List ℕ} {allStale : ℕ}
+pub settling-least : {rule : Rule} {returned classes : List ℕ} {first t : Table} {again : Bool} {low high totals last chains methods lower upper handed lowerMeets upperMeets allLast allFresh allAdded : List ℕ} {allStale : ℕ}
     (whole : Rule)
-    → Settling rule returned classes first t again low high last chains methods lower upper handed lowerMeets upperMeets allLast allFresh allAdded allStale
+    → Settling rule returned classes first t again low high totals last chains methods lower upper handed lowerMeets upperMeets allLast allFresh allAdded allStale
     → Fits 64 whole → Shaped 64 first → ((v : Table) → Closed 64 v whole → Closed 64 v rule) → ((v : Table) → Closed 64 v rule → Closed 64 v whole)
     → again ≡ false → t ≡ leastAbove 64 whole first
 settling-least {rule} {returned} {classes} {first} {t} whole s fits shaped to from e =

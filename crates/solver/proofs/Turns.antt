@@ -48,9 +48,9 @@ module _ {base t u : Table} {returned classes last last′ chains fresh methods 
 
 -- ---- how far quick passes have come
 
-pub record Hurried (rule : Rule) (base first t : Table) (returned classes lowerMeets upperMeets low high last chains methods lower upper handed allLast allFresh allAdded : List ℕ) (allStale : ℕ) : Type 0 where
+pub record Hurried (rule : Rule) (base first t : Table) (returned classes lowerMeets upperMeets low high totals last chains methods lower upper handed allLast allFresh allAdded : List ℕ) (allStale : ℕ) : Type 0 where
   pub old : Table
   pub reaches : Reaches 64 rule first t
-  pub sizes : Sizes t low high
+  pub sizes : Sizes t low high totals
   pub held : Fulls classes t lowerMeets upperMeets
   pub behind : Behind base old t returned classes last chains methods lower upper handed allLast allFresh allAdded allStale

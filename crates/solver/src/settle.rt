@@ -54,6 +54,7 @@ pub fn settle<'a>(
     name_classes(masks, &mut classes);
     let mut low = [0u8; 2048];
     let mut high = [0u8; 384];
+    let mut totals = [0u64; 38];
     let mut last = [0u64; 38];
     let mut chain_words = [0u64; 256];
     let mut fresh = [0u64; 256];
@@ -114,7 +115,7 @@ pub fn settle<'a>(
         all_last = [0u64; 38];
         all_fresh = [0u64; 256];
         all_added = [0u64; 256];
-        note(t, &mut low, &mut high, &mut last);
+        note(t, &mut low, &mut high, &mut totals, &mut last);
         passes = one_more(passes);
         all_stale = hurry(
             again & (passes == 8),
@@ -130,6 +131,7 @@ pub fn settle<'a>(
             returned,
             &mut low,
             &mut high,
+            &mut totals,
             &mut last,
             &mut chain_words,
             &mut fresh,

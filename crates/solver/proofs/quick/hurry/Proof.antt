@@ -21,15 +21,15 @@ use Rattle.solver.proofs.quick.hurry.Statement.{statement}
 use Rattle.solver.proofs.quick.hurry.Tie as tie
 
 abbrev Inv-loop : tie.InvT-loop
-Inv-loop go t₀ lower-meets₀ upper-meets₀ file types functions flags formals classes returned low₀ high₀ last₀ chain-words₀ fresh₀ methods₀ added₀ lower₀ upper₀ handed₀ all-last₀ all-fresh₀ all-added₀ all-stale needs starts named reads0 reads1 reads2 reads3 reads4 reads5 reads6 reads7 handed-by₀ thrown-by₀ thrown-in₀ roles₀ sums₀ marks₀ all₀ again₀ t lower-meets upper-meets low high last chain-words fresh methods added lower upper handed all-last all-fresh all-added handed-by thrown-by thrown-in roles sums marks all again =
-    ((length t ≡ length t₀) × (length lower-meets ≡ 256) × (length upper-meets ≡ 256) × (length low ≡ 2048) × (length high ≡ 384) × (length last ≡ 38) × (length chain-words ≡ 256) × (length fresh ≡ 256) × (length methods ≡ 256) × (length added ≡ 256) × (length lower ≡ 256) × (length upper ≡ 256) × (length handed ≡ 64) × (length all-last ≡ 38) × (length all-fresh ≡ 256) × (length all-added ≡ 256) × (length handed-by ≡ 256) × (length thrown-by ≡ 256) × (length thrown-in ≡ 256) × (length roles ≡ 256) × (length sums ≡ 13) × (length marks ≡ 8))
-    × ((p : Program) (base old : Table) → p .sheet .types ≡ types → Laid p functions flags formals classes returned → Small 64 t₀ → Sizes t₀ low₀ high₀
+Inv-loop go t₀ lower-meets₀ upper-meets₀ file types functions flags formals classes returned low₀ high₀ totals₀ last₀ chain-words₀ fresh₀ methods₀ added₀ lower₀ upper₀ handed₀ all-last₀ all-fresh₀ all-added₀ all-stale needs starts named reads0 reads1 reads2 reads3 reads4 reads5 reads6 reads7 handed-by₀ thrown-by₀ thrown-in₀ roles₀ sums₀ marks₀ all₀ again₀ t lower-meets upper-meets low high totals last chain-words fresh methods added lower upper handed all-last all-fresh all-added handed-by thrown-by thrown-in roles sums marks all again =
+    ((length t ≡ length t₀) × (length lower-meets ≡ 256) × (length upper-meets ≡ 256) × (length low ≡ 2048) × (length high ≡ 384) × (length totals ≡ 38) × (length last ≡ 38) × (length chain-words ≡ 256) × (length fresh ≡ 256) × (length methods ≡ 256) × (length added ≡ 256) × (length lower ≡ 256) × (length upper ≡ 256) × (length handed ≡ 64) × (length all-last ≡ 38) × (length all-fresh ≡ 256) × (length all-added ≡ 256) × (length handed-by ≡ 256) × (length thrown-by ≡ 256) × (length thrown-in ≡ 256) × (length roles ≡ 256) × (length sums ≡ 13) × (length marks ≡ 8))
+    × ((p : Program) (base old : Table) → p .sheet .types ≡ types → Laid p functions flags formals classes returned → Small 64 t₀ → Sizes t₀ low₀ high₀ totals₀
     → Fulls classes t₀ lower-meets₀ upper-meets₀
     → Behind base old t₀ returned classes last₀ chain-words₀ methods₀ lower₀ upper₀ handed₀ all-last₀ all-fresh₀ all-added₀ all-stale
-    → Hurried (passRules p file) base t₀ t returned classes lower-meets upper-meets low high last chain-words methods lower upper handed all-last all-fresh all-added all)
+    → Hurried (passRules p file) base t₀ t returned classes lower-meets upper-meets low high totals last chain-words methods lower upper handed all-last all-fresh all-added all)
 
 abbrev μ-loop : tie.MeasureT-loop
-μ-loop go t₀ lower-meets₀ upper-meets₀ file types functions flags formals classes returned low₀ high₀ last₀ chain-words₀ fresh₀ methods₀ added₀ lower₀ upper₀ handed₀ all-last₀ all-fresh₀ all-added₀ all-stale needs starts named reads0 reads1 reads2 reads3 reads4 reads5 reads6 reads7 handed-by₀ thrown-by₀ thrown-in₀ roles₀ sums₀ marks₀ all₀ again₀ t lower-meets upper-meets low high last chain-words fresh methods added lower upper handed all-last all-fresh all-added handed-by thrown-by thrown-in roles sums marks all again =
+μ-loop go t₀ lower-meets₀ upper-meets₀ file types functions flags formals classes returned low₀ high₀ totals₀ last₀ chain-words₀ fresh₀ methods₀ added₀ lower₀ upper₀ handed₀ all-last₀ all-fresh₀ all-added₀ all-stale needs starts named reads0 reads1 reads2 reads3 reads4 reads5 reads6 reads7 handed-by₀ thrown-by₀ thrown-in₀ roles₀ sums₀ marks₀ all₀ again₀ t lower-meets upper-meets low high totals last chain-words fresh methods added lower upper handed all-last all-fresh all-added handed-by thrown-by thrown-in roles sums marks all again =
     left 64 again t
 
 -- nothing is done
@@ -39,7 +39,7 @@ returns c =
       λ p base old types laid small sizes fulls behind. (omega arith, reaches-itself, sizes, fulls, (old, behind)),
       (
         λ e. refl,
-        (pre .3, pre .4, pre .5, pre .6, pre .7, pre .8, pre .9, pre .10, pre .11, pre .12, pre .13, pre .14, pre .15, pre .16, pre .17),
+        (pre .3, pre .4, pre .5, pre .6, pre .7, pre .8, pre .9, pre .10, pre .11, pre .12, pre .13, pre .14, pre .15, pre .16, pre .17, pre .18),
       ),
     )
 
@@ -76,6 +76,7 @@ loop-holds c =
         pre .15,
         pre .16,
         pre .17,
+        pre .18,
         long,
         long,
         long,
@@ -96,7 +97,6 @@ renew-requires c κs =
     let inv = c .before .before .before .before .before .before .before .before .before .before .before .before .before .before .before .loop .inv .0 in (
       omega (arith, inv .0, pre .0),
       c .before .before .before .before .before .before .before .before .before .before .before .before .stirred-labels .ensures,
-      inv .6,
       inv .7,
       inv .8,
       inv .9,
@@ -106,6 +106,7 @@ renew-requires c κs =
       inv .13,
       inv .14,
       inv .15,
+      inv .16,
     )
 
 join-requires : tie.Need-join-requires Inv-loop μ-loop
@@ -116,13 +117,13 @@ stir-requires c κs =
     let pre = c .before .before .before .before .before .before .before .before .before .before .before .before .before .before .before .before .before .before .before .before .before .before .before .before .before .before .before .before .before .before .before .before .before .before .before .before .before .before .before .before .before .before .before .before .before .before .before .before .pre in
     let inv = c .before .before .before .before .before .before .before .before .before .before .before .before .before .before .before .before .before .before .before .before .before .before .before .before .before .before .before .before .before .loop .inv .0 in
     let renewed = c .before .before .before .before .before .before .before .before .before .before .before .before .before .renew .ensures .1 .1 in
-    (omega (arith, inv .0, pre .0), renewed .6, inv .16, inv .17, inv .18, inv .19, inv .20)
+    (omega (arith, inv .0, pre .0), renewed .6, inv .17, inv .18, inv .19, inv .20, inv .21)
 
 mark-all-requires : tie.Need-mark-all-requires Inv-loop μ-loop
 mark-all-requires c κs =
     let inv = c .before .before .before .before .before .before .before .before .before .before .before .before .before .before .before .before .before .before .before .before .before .before .before .before .before .before .before .before .before .before .before .before .before .before .before .before .before .before .before .before .before .loop .inv .0 in
     let indexed = c .before .before .before .before .before .before .before .before .before .before .before .before .before .before .before .before .before .before .before .before .before .before .before .before .before .before .before .before .before .before .before .before .before .before .before .before .before .before .before .before .before .before .before .before .index-all .ensures .1 in
-    (inv .21, indexed .2, indexed .3, indexed .4, indexed .5, indexed .6, indexed .7, indexed .8, indexed .9)
+    (inv .22, indexed .2, indexed .3, indexed .4, indexed .5, indexed .6, indexed .7, indexed .8, indexed .9)
 
 array-read-news : tie.Need-array-read-news Inv-loop μ-loop
 array-read-news c = search needs
@@ -147,45 +148,46 @@ quick-requires c κs =
 
 note-requires : tie.Need-note-requires Inv-loop μ-loop
 note-requires c κs =
-    let pre = c .before .before .before .before .before .before .before .before .before .before .before .before .before .before .before .before .before .before .before .before .before .before .before .before .before .before .before .before .before .before .before .before .before .before .before .before .before .before .before .before .before .before .before .before .before .before .before .before .before .before .before .before .before .before .before .before .before .before .before .before .before .before .before .before .before .before .before .before .before .before .before .before .before .before .before .before .before .before .before .before .before .before .before .pre in
-    let inv = c .before .before .before .before .before .before .before .before .before .before .before .before .before .before .before .before .before .before .before .before .before .before .before .before .before .before .before .before .before .before .before .before .before .before .before .before .before .before .before .before .before .before .before .before .before .before .before .before .before .before .before .before .before .before .before .before .before .before .before .before .before .before .before .before .loop .inv .0 in
-    (omega (arith, c .before .before .before .before .before .before .quick .kept .0, inv .0, pre .0), inv .3, inv .4, inv .5)
+    let pre = c .before .before .before .before .before .before .before .before .before .before .before .before .before .before .before .before .before .before .before .before .before .before .before .before .before .before .before .before .before .before .before .before .before .before .before .before .before .before .before .before .before .before .before .before .before .before .before .before .before .before .before .before .before .before .before .before .before .before .before .before .before .before .before .before .before .before .before .before .before .before .before .before .before .before .before .before .before .before .before .before .before .before .before .before .pre in
+    let inv = c .before .before .before .before .before .before .before .before .before .before .before .before .before .before .before .before .before .before .before .before .before .before .before .before .before .before .before .before .before .before .before .before .before .before .before .before .before .before .before .before .before .before .before .before .before .before .before .before .before .before .before .before .before .before .before .before .before .before .before .before .before .before .before .before .before .loop .inv .0 in
+    (omega (arith, c .before .before .before .before .before .before .before .quick .kept .0, inv .0, pre .0), inv .3, inv .4, inv .5, inv .6)
 
 few-requires-2 : tie.Need-few-requires-2 Inv-loop μ-loop
 few-requires-2 c κs = search needs
 
 loop-less : tie.Need-loop-less Inv-loop μ-loop
 loop-less c =
-    let start = c .before .before .before .before .before .before .before .before .before .before .before .before .before .before .before .before .before .before .before .before .before .before .before .before .before .before .before .before .before .before .before .before .before .before .before .before .before .before .before .before .before .before .before .before .before .before .before .before .before .before .before .before .before .before .before .before .before .before .before .before .before .before .before .before .before .before .before .before .before .before .before .before .before .before .before .before .before .before .before .before .before .before .before .before .before .before in
+    let start = c .before .before .before .before .before .before .before .before .before .before .before .before .before .before .before .before .before .before .before .before .before .before .before .before .before .before .before .before .before .before .before .before .before .before .before .before .before .before .before .before .before .before .before .before .before .before .before .before .before .before .before .before .before .before .before .before .before .before .before .before .before .before .before .before .before .before .before .before .before .before .before .before .before .before .before .before .before .before .before .before .before .before .before .before .before .before .before in
     let a = start .args in
-    let l = c .before .before .before .before .before .before .before .before .before .before .before .before .before .before .before .before .before .before .before .before .before .before .before .before .before .before .before .before .before .before .before .before .before .before .before .before .before .before .before .before .before .before .before .before .before .before .before .before .before .before .before .before .before .before .before .before .before .before .before .before .before .before .before .before .before .before .before .loop in
-    let known = start .pre .18 in
+    let l = c .before .before .before .before .before .before .before .before .before .before .before .before .before .before .before .before .before .before .before .before .before .before .before .before .before .before .before .before .before .before .before .before .before .before .before .before .before .before .before .before .before .before .before .before .before .before .before .before .before .before .before .before .before .before .before .before .before .before .before .before .before .before .before .before .before .before .before .before .loop in
+    let known = start .pre .19 in
     let p = known .0 in
     let base = known .1 .0 in
     let k = known .1 .1 .1 in
     let s = l .inv .1 p base (known .1 .1 .0) (k .0) (k .1) (k .2) (k .3) (k .4) (k .5) in
-    let views = c .before .before .before .before .before .before .before .before .before .before .before .before .before .before .before .before .before .before .before .before .before .before .before .before .before .before .before .before .before .before .before .before .before .before .before .before .before .before .before .before .before .before .before .before .before .before .before .before .before .before .before .renew .ensures .0 base (s .old) (l .all) (classes-below p (a .classes .now) (k .1 .names)) (s .behind) in
-    let more = c .before .before .before .before .before .before .before .before .before .quick .ensures .0 p (a .returned .now) (s .old) (l .t) (k .0) (k .1) (views .0) (λ r x i. i) (s .held) in
-    adds-left (c .few2 .result) (c .before .before .before .before .before .before .before .before .before .before .before .before .before .before .before .before .before .before .before .before .before .before .before .before .before .before .before .before .before .before .before .before .before .before .before .before .before .before .before .before .before .before .before .before .before .before .before .before .before .before .before .before .before .before .before .before .before .before .before .before .before .before .before .before .before .before .loop-test .taken) (more .0)
+    let views = c .before .before .before .before .before .before .before .before .before .before .before .before .before .before .before .before .before .before .before .before .before .before .before .before .before .before .before .before .before .before .before .before .before .before .before .before .before .before .before .before .before .before .before .before .before .before .before .before .before .before .before .before .renew .ensures .0 base (s .old) (l .all) (classes-below p (a .classes .now) (k .1 .names)) (s .behind) in
+    let more = c .before .before .before .before .before .before .before .before .before .before .quick .ensures .0 p (a .returned .now) (s .old) (l .t) (k .0) (k .1) (views .0) (λ r x i. i) (s .held) in
+    adds-left (c .few2 .result) (c .before .before .before .before .before .before .before .before .before .before .before .before .before .before .before .before .before .before .before .before .before .before .before .before .before .before .before .before .before .before .before .before .before .before .before .before .before .before .before .before .before .before .before .before .before .before .before .before .before .before .before .before .before .before .before .before .before .before .before .before .before .before .before .before .before .before .before .loop-test .taken) (more .0)
 
 loop-again : tie.Need-loop-again Inv-loop μ-loop
 loop-again c =
-    let start = c .before .before .before .before .before .before .before .before .before .before .before .before .before .before .before .before .before .before .before .before .before .before .before .before .before .before .before .before .before .before .before .before .before .before .before .before .before .before .before .before .before .before .before .before .before .before .before .before .before .before .before .before .before .before .before .before .before .before .before .before .before .before .before .before .before .before .before .before .before .before .before .before .before .before .before .before .before .before .before .before .before .before .before .before .before .before in
+    let start = c .before .before .before .before .before .before .before .before .before .before .before .before .before .before .before .before .before .before .before .before .before .before .before .before .before .before .before .before .before .before .before .before .before .before .before .before .before .before .before .before .before .before .before .before .before .before .before .before .before .before .before .before .before .before .before .before .before .before .before .before .before .before .before .before .before .before .before .before .before .before .before .before .before .before .before .before .before .before .before .before .before .before .before .before .before .before .before in
     let a = start .args in
-    let l = c .before .before .before .before .before .before .before .before .before .before .before .before .before .before .before .before .before .before .before .before .before .before .before .before .before .before .before .before .before .before .before .before .before .before .before .before .before .before .before .before .before .before .before .before .before .before .before .before .before .before .before .before .before .before .before .before .before .before .before .before .before .before .before .before .before .before .before .loop in
+    let l = c .before .before .before .before .before .before .before .before .before .before .before .before .before .before .before .before .before .before .before .before .before .before .before .before .before .before .before .before .before .before .before .before .before .before .before .before .before .before .before .before .before .before .before .before .before .before .before .before .before .before .before .before .before .before .before .before .before .before .before .before .before .before .before .before .before .before .before .before .loop in
     let inv = l .inv .0 in
-    let renewed = c .before .before .before .before .before .before .before .before .before .before .before .before .before .before .before .before .before .before .before .before .before .before .before .before .before .before .before .before .before .before .before .before .before .before .before .before .before .before .before .before .before .before .before .before .before .before .before .before .before .before .before .renew .ensures in
+    let renewed = c .before .before .before .before .before .before .before .before .before .before .before .before .before .before .before .before .before .before .before .before .before .before .before .before .before .before .before .before .before .before .before .before .before .before .before .before .before .before .before .before .before .before .before .before .before .before .before .before .before .before .before .before .renew .ensures in
     let lengths = renewed .1 .1 in
-    let stirred = c .before .before .before .before .before .before .before .before .before .before .before .before .before .before .before .before .before .before .before .before .before .before .before .before .before .before .before .before .before .before .before .before .before .before .before .before .before .stir .ensures in
-    let quick = c .before .before .before .before .before .before .before .before .before .quick in
+    let stirred = c .before .before .before .before .before .before .before .before .before .before .before .before .before .before .before .before .before .before .before .before .before .before .before .before .before .before .before .before .before .before .before .before .before .before .before .before .before .before .stir .ensures in
+    let quick = c .before .before .before .before .before .before .before .before .before .before .quick in
     let note = c .before .before .note .ensures in (
       (
         quick .kept .0 ∙ inv .0,
         quick .ensures .1 .0,
         quick .ensures .1 .1,
-        note .1 .1 .0,
-        note .1 .1 .1,
-        note .1 .1 .2,
+        note .1 .0,
+        note .1 .1,
+        note .1 .2,
+        note .1 .3,
         lengths .0,
         lengths .1,
         lengths .2,
@@ -201,21 +203,23 @@ loop-again c =
         stirred .2,
         stirred .3,
         stirred .4,
-        c .before .before .before .before .before .before .before .before .before .before .before .before .before .before .before .before .before .before .before .before .before .before .before .before .before .mark-all .ensures,
+        c .before .before .before .before .before .before .before .before .before .before .before .before .before .before .before .before .before .before .before .before .before .before .before .before .before .before .mark-all .ensures,
       ),
       λ p base old types laid small sizes fulls behind.
           let s = l .inv .1 p base old types laid small sizes fulls behind in
           let views = renewed .0 base (s .old) (l .all) (classes-below p (a .classes .now) (laid .names)) (s .behind) in
           let more = quick .ensures .0 p (a .returned .now) (s .old) (l .t) types laid (views .0) (λ r x i. i) (s .held) in
           let within = more .0 .reaches .adds in
+          let before = s .reaches .small small in
+          let noted = note .0 (l .t) before (more .0 .reaches .small before) within (s .sizes) in
           record {
             old = l .t;
             reaches = reaches-on (s .reaches) (more .0 .reaches);
-            sizes = note .0;
+            sizes = noted .1;
             held = more .1;
             behind =
-                behind-quick (views .1 (every 64) (λ m n h i o. every-on 64 m h)) within (note .1 .0 (l .t) (s .reaches .small small) within (s .sizes))
-                (c .before .before .before .before .before .before .before .before .before .before .before .before .before .before .before .before .before .before .before .before .before .before .before .before .before .before .before .before .before .before .before .before .before .before .before .before .before .before .before .before .before .before .before .before .before .before .before .before .before .before .join .ensures);
+                behind-quick (views .1 (every 64) (λ m n h i o. every-on 64 m h)) within (noted .0)
+                (c .before .before .before .before .before .before .before .before .before .before .before .before .before .before .before .before .before .before .before .before .before .before .before .before .before .before .before .before .before .before .before .before .before .before .before .before .before .before .before .before .before .before .before .before .before .before .before .before .before .before .before .join .ensures);
           },
     )
 
@@ -235,7 +239,7 @@ returns-2 c =
           (reaches-facts (s .reaches), s .reaches, s .sizes, s .held, (s .old, s .behind)),
       (
         λ e. absurd (not-both _ (c .before .before .before .before .before .before .before .before .before .before .before .before .before .before .before .before .before .if1 .left) e),
-        (inv .0 .1, inv .0 .2, inv .0 .3, inv .0 .4, inv .0 .5, inv .0 .6, inv .0 .7, inv .0 .8, inv .0 .9, inv .0 .10, inv .0 .11, inv .0 .12, inv .0 .13, inv .0 .14, inv .0 .15),
+        (inv .0 .1, inv .0 .2, inv .0 .3, inv .0 .4, inv .0 .5, inv .0 .6, inv .0 .7, inv .0 .8, inv .0 .9, inv .0 .10, inv .0 .11, inv .0 .12, inv .0 .13, inv .0 .14, inv .0 .15, inv .0 .16),
       ),
     )
 
