@@ -10,6 +10,7 @@ fn broad(sum: u16) -> u64 {
     sum as u64
 }
 
+// The part of a byte's sum that makes a record with it at this place worth a look.
 fn asked(needs: &[u16; 297], roles: &[u64; 256], place: usize, byte: u8) -> u64
     requires { ⌜ place < 297 ⌝ }
 {

@@ -1,4 +1,4 @@
-// What grew, by byte value: what a byte in a body means as a variable, a label or a key, with the sums that crate's index names.
+// What grew, by byte value: what a byte of a body means as a variable, a label or a key, as a sum of the numbers that NEEDS in index.rt goes by.
 ghost use mathlib.Core.Path.{_≡_};
 ghost use Prim.Native.Nat.{_+_, _<_, _≤_};
 ghost use lib.ListN.{length};

@@ -151,16 +151,7 @@ module _ {L : ℕ} {old new : Table} where
 pub resumes-closed : {L : ℕ} {p : Rule} {old t u : Table} {grew : Bool} → Resumes L p old t t u grew → Draws L old t p → grew ≡ false → Closed L u p
 resumes-closed {L} {p} {old} {t} {u} s d e = heeds-closed L u p (subst (λ (x : Table). Heeds L x u p) (sym (s .still e)) (s .follows d))
 
--- what falls with every turn of `while again { .. again = pass(t); .. }`
-pub resumes-left : {L : ℕ} {p : Rule} {old new t u : Table} {again grew : Bool} → again ≡ true → Resumes L p old new t u grew → left L grew u < left L again t
-unfolding room
-resumes-left {L} {p} {old} {new} {t} {u} {again} {grew} e s = rw e (go grew refl)
-  where
-    go : (b : Bool) → grew ≡ b → left L b u < left L true t
-    go true g = omega (arith, s .more g, facts-room L u)
-    go false g = omega arith
-
--- and of one that may stop though something was added
+-- what falls with every turn of a loop that stops where nothing was added, or sooner
 pub adds-left : {L : ℕ} {p : Rule} {t u : Table} {again grew : Bool} (on : Bool) → again ≡ true → Adds L p t u grew → left L (grew && on) u < left L again t
 unfolding room
 adds-left {L} {p} {t} {u} {again} {grew} on e s = rw e (go grew refl on)
