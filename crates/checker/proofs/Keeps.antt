@@ -14,10 +14,10 @@ use Rattle.rules.specs.Table.{Table, Has}
 use Rattle.program.specs.Program.{namesOf}
 use Rattle.analysis.proofs.Held.{on-both}
 use Rattle.tables.specs.Sets.{Gathered, Properties, Listed}
-use Rattle.statements.specs.Desk.{desk}
-use Rattle.statements.specs.Range.{Key}
+use Rattle.views.specs.Arrays.{programBy}
+use Rattle.views.specs.Range.{Key}
 use Rattle.tables.proofs.Loops.{Unions, unions-end}
-use Rattle.statements.proofs.Words.{listed-single, listed-prim}
+use Rattle.views.proofs.Words.{listed-single, listed-prim}
 use Rattle.checker.specs.Kept as kept
 use Rattle.checker.specs.Kept.{Each, Joined, Under, Common, nameWord}
 use Rattle.lookups.specs.Kept.{Exact}
@@ -37,16 +37,16 @@ kept-next Good words n w h good each i l = go (ℕ-discrete i n)
 -- ---- names
 
 pub word-listed : (masks words : List ℕ) (key : ℕ) → Key key → kept.Names masks words
-    → Listed (namesOf (desk [] [] [] masks [] .sheet) key) (nameWord words key)
+    → Listed (namesOf (programBy [] [] [] masks [] .sheet) key) (nameWord words key)
 unfolding namesOf
 word-listed masks words key k names = go (decLt key 128)
   where
-    go : Dec (key < 128) → Listed (namesOf (desk [] [] [] masks [] .sheet) key) (nameWord words key)
+    go : Dec (key < 128) → Listed (namesOf (programBy [] [] [] masks [] .sheet) key) (nameWord words key)
     go (yes h) = rw (lt-ltb key 128 h) (listed-single key)
     go (no h) =
         let l : 128 ≤ key = omega (arith, h) in
         let e : 128 + (key - 128) ≡ key = omega arith in
-        let n : Listed (namesOf (desk [] [] [] masks [] .sheet) key) (getD words (key - 128) 0) = rw e at (names (key - 128) (omega (arith, k .0))) in
+        let n : Listed (namesOf (programBy [] [] [] masks [] .sheet) key) (getD words (key - 128) 0) = rw e at (names (key - 128) (omega (arith, k .0))) in
         rw (le-ltb key 128 l) (rw (le-ltb key 128 l) at n)
 
 pub unions-joined : (t : Table) (masks words unions : List ℕ) → kept.Names masks words
@@ -69,14 +69,14 @@ under-one t ms n m r small h u =
     }
 
 pub under-class : (t : Table) (masks unions : List ℕ) (ms c r : ℕ) → c < 8 → kept.Unions t masks unions → Gathered unions ms (64 * c) r
-    → Under t ms (namesOf (desk [] [] [] masks [] .sheet) (128 + c)) r
+    → Under t ms (namesOf (programBy [] [] [] masks [] .sheet) (128 + c)) r
 under-class t masks unions ms c r h joined g =
     record {
       source = λ x o. let s = g .source x o in let p = at (s .0) (g .below (s .0) (s .1)) .source x (s .2) in (s .0, s .1, p);
       all = λ m n x o i p. g .all m x o (at m (g .below m o) .all n x i p);
     }
   where
-    at : (m : ℕ) → m < 64 → Joined t (namesOf (desk [] [] [] masks [] .sheet) (128 + c)) (256 + 32 * m) (getD unions (64 * c + m) 0)
+    at : (m : ℕ) → m < 64 → Joined t (namesOf (programBy [] [] [] masks [] .sheet) (128 + c)) (256 + 32 * m) (getD unions (64 * c + m) 0)
     at m l =
         let d : (64 * c + m) / 64 ≡ c = omega arith in
         let e : (64 * c + m) % 64 ≡ m = omega arith in

@@ -21,7 +21,7 @@ use Rattle.format.specs.Records.{field}
 use Rattle.program.specs.Statement.{statementsOf, named, return}
 use Rattle.program.specs.Program.{Program}
 use Rattle.analysis.specs.Rules.{parentsOf, loading, storing, calling, making, converting, ruleOf}
-use Rattle.statements.specs.Desk.{recordRule}
+use Rattle.views.specs.Arrays.{recordRule}
 
 pub one-rule : {p : Rule} {t : Table} {a b : ℕ} → Finds 64 t p a b → Finds 64 t (both p none) a b
 one-rule s = finds-both s finds-none

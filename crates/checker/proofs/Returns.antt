@@ -24,9 +24,9 @@ use Rattle.rules.proofs.Find.{finds-word, finds-for, finds-both, finds-equal}
 use Rattle.program.specs.Program.{Program, isFunction, thisOf, formalsOf, returnsOf}
 use Rattle.analysis.specs.Rules.{passing, entering, calling, converting}
 use Rattle.tables.specs.Sets.{Gathered}
-use Rattle.statements.specs.Desk.{desk}
+use Rattle.views.specs.Arrays.{programBy}
 use Rattle.lookups.specs.Kept.{Back}
-use Rattle.statements.proofs.Returns.{returned-back, back-returned}
+use Rattle.views.proofs.Returns.{returned-back, back-returned}
 use Rattle.checker.specs.Kept.{Joined, Method}
 use Rattle.lookups.specs.Kept.{Exact}
 
@@ -59,7 +59,7 @@ module _ (words : List ℕ) (f : ℕ) (t : Table) where
 pub returns-joined : (words : List ℕ) (f a b c d : ℕ) (t : Table) → f < 64
     → Gathered t (getD words (4 * f) 0) 0 a → Gathered t (getD words (4 * f + 1) 0) 64 b
     → Gathered t (getD words (4 * f + 2) 0) 128 c → Gathered t (getD words (4 * f + 3) 0) 192 d
-    → Joined t (returnsOf (desk [] [] [] [] words) f) 0 (union (union a b) (union c d))
+    → Joined t (returnsOf (programBy [] [] [] [] words) f) 0 (union (union a b) (union c d))
 returns-joined words f a b c d t hf ga gb gc gd =
     record {
       source = λ v o. let g = source v o in (g .0, back-returned [] [] [] [] words f hf (g .0) (g .1), to-zero t (g .0) v (g .2));

@@ -21,8 +21,8 @@ use Rattle.program.specs.Program.{Program, Guest, isFunction, namesOf, statemen
 use Rattle.analysis.specs.Rules.{entering, calling, ruleOf, rules}
 use Rattle.analysis.proofs.Proper.{readable-proper}
 use Rattle.analysis.proofs.Returned.{readable-returned, returns-below}
-use Rattle.statements.specs.Desk.{returnsBy, deskOf, passRules, theGuest}
-use Rattle.statements.proofs.Returns.{returned-back, back-returned}
+use Rattle.views.specs.Arrays.{returnsBy, sheetProgram, passRules, theGuest}
+use Rattle.views.proofs.Returns.{returned-back, back-returned}
 
 -- a program with this sheet
 abbrev by : Sheet → List (ℕ × say.Statement) → List Guest → Program
@@ -139,7 +139,7 @@ module _ (file : List ℕ) (ok : Readable 64 file) where
       back-returned (sheet .types) (sheet .flags) (sheet .formals) (sheet .masks) (sheet .returned) f h x
       (b, readable-returned 64 file (omega arith) ok f x h b .0 i)
 
-  to-rules : (t : Table) (r l : ℕ) → Told 64 t (passRules (deskOf sheet) file) r l → Told 64 t (rules 64 (programOf (readFile 64 file))) r l
+  to-rules : (t : Table) (r l : ℕ) → Told 64 t (passRules (sheetProgram sheet) file) r l → Told 64 t (rules 64 (programOf (readFile 64 file))) r l
   unfolding rules programOf namesOf returnsOf statements guestsStatements guestStatements
   to-rules t r l (inl h) = inl h
   to-rules t r l (inr (inl h)) = inr (inl h)
@@ -157,7 +157,7 @@ module _ (file : List ℕ) (ok : Readable 64 file) where
       either (inl g) = inl (same-rules t sheet back host [] (guestsOf sheet) arrays-agree (guestsStatements theGuest) r l g)
       either (inr g) = inr (same-rules t sheet back host [] (guestsOf sheet) arrays-agree host r l g)
 
-  from-rules : (t : Table) (r l : ℕ) → Told 64 t (rules 64 (programOf (readFile 64 file))) r l → Told 64 t (passRules (deskOf sheet) file) r l
+  from-rules : (t : Table) (r l : ℕ) → Told 64 t (rules 64 (programOf (readFile 64 file))) r l → Told 64 t (passRules (sheetProgram sheet) file) r l
   unfolding rules programOf namesOf returnsOf statements guestsStatements guestStatements
   from-rules t r l (inl h) = inl h
   from-rules t r l (inr (inl h)) = inr (inl h)
@@ -175,5 +175,5 @@ module _ (file : List ℕ) (ok : Readable 64 file) where
       either (inr g) = inr (same-rules t sheet host back (guestsOf sheet) [] program-agrees host r l g)
 
   -- what is found by the arrays is found for the program's rules
-  pub pass-finds : {t : Table} {a b : ℕ} → Finds 64 t (passRules (deskOf sheet) file) a b → Finds 64 t (rules 64 (programOf (readFile 64 file))) a b
+  pub pass-finds : {t : Table} {a b : ℕ} → Finds 64 t (passRules (sheetProgram sheet) file) a b → Finds 64 t (rules 64 (programOf (readFile 64 file))) a b
   pass-finds {t} s = finds-for (to-rules t) (from-rules t) s

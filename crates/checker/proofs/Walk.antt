@@ -22,9 +22,9 @@ use Rattle.format.proofs.Readable.{readable-ready}
 use Rattle.program.specs.Statement.{Statement, statementsOf}
 use Rattle.program.specs.Program.{Program, placed, hostStatements}
 use Rattle.analysis.specs.Rules.{ruleOf}
-use Rattle.statements.specs.Desk.{saying, recordRule, hostRules}
-use Rattle.statements.specs.Range.{InRange}
-use Rattle.statements.proofs.Ranges.{fits-in-range}
+use Rattle.views.specs.Arrays.{saying, recordRule, hostRules}
+use Rattle.views.specs.Range.{InRange}
+use Rattle.views.proofs.Ranges.{fits-in-range}
 use Rattle.checker.proofs.Same.{told-append, append-told}
 
 -- the rules of a list of records

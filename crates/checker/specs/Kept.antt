@@ -14,7 +14,7 @@ use Rattle.rules.specs.Gap.{Finds}
 use Rattle.program.specs.Program.{namesOf, returnsOf}
 use Rattle.tables.specs.Sets.{Gathered, Listed}
 use Rattle.lookups.specs.Kept.{Exact}
-use Rattle.statements.specs.Desk.{desk}
+use Rattle.views.specs.Arrays.{programBy}
 
 -- each of the first n words is good
 abbrev pub Each : ℕ → (ℕ → ℕ → Type 0) → List ℕ → Type 0
@@ -42,11 +42,11 @@ nameWord words key = cond (ltb key 128) (2 ^ key) (getD words (key - 128) 0)
 
 -- for each class c its names, as a word
 abbrev pub Names : List ℕ → List ℕ → Type 0
-Names masks words = Each 8 (λ c w. Listed (namesOf (desk [] [] [] masks [] .sheet) (128 + c)) w) words
+Names masks words = Each 8 (λ c w. Listed (namesOf (programBy [] [] [] masks [] .sheet) (128 + c)) w) words
 
 -- for each class c and label m, at 64 * c + m, what H(m,n) holds for some name n of the class
 abbrev pub Unions : Table → List ℕ → List ℕ → Type 0
-Unions t masks unions = Each 512 (λ i w. Joined t (namesOf (desk [] [] [] masks [] .sheet) (128 + i / 64)) (256 + 32 * (i % 64)) w) unions
+Unions t masks unions = Each 512 (λ i w. Joined t (namesOf (programBy [] [] [] masks [] .sheet) (128 + i / 64)) (256 + 32 * (i % 64)) w) unions
 
 -- for each class c and label m, at 64 * c + m, labels that H(m,n) holds for all names n of the class
 abbrev pub Meets : Table → List ℕ → List ℕ → Type 0
@@ -84,7 +84,7 @@ Gaps t types formals gaps =
 
 -- for each function what it hands back
 abbrev pub Handed : Table → List ℕ → List ℕ → Type 0
-Handed t returned handed = Each 64 (λ f w. Joined t (returnsOf (desk [] [] [] [] returned) f) 0 w) handed
+Handed t returned handed = Each 64 (λ f w. Joined t (returnsOf (programBy [] [] [] [] returned) f) 0 w) handed
 
 -- ---- all of them
 

@@ -8,7 +8,7 @@ ghost use lib.Dec.{eqb};
 ghost use Rattle.rules.specs.Rule.{when};
 ghost use Rattle.rules.specs.Gap.{Finds};
 ghost use Rattle.analysis.specs.Rules.{parentsOf, guestChains};
-ghost use Rattle.statements.specs.Desk.{desk, chainBy, chainRules, theGuest};
+ghost use Rattle.views.specs.Arrays.{programBy, chainBy, chainRules, theGuest};
 ghost use Rattle.checker.specs.Seen.{seen};
 use crate::gather::gather;
 use crate::row::look_give;
@@ -55,7 +55,7 @@ fn look_declared(t: &[u64], d: u64, kind: u8, l: usize, low: usize) -> usize
 // Every declared label's chain.
 pub fn look_chains(t: &[u64], d: u64, types: &[u8; 64], low: usize) -> usize
     requires { ⌜ 2432 ≤ length (now t) ⌝ }
-    ensures { λ r. ⌜ Finds 64 (seen d (now (t .entry))) (chainRules (desk (now (types .entry)) [] [] [] [])) low r ⌝ }
+    ensures { λ r. ⌜ Finds 64 (seen d (now (t .entry))) (chainRules (programBy (now (types .entry)) [] [] [] [])) low r ⌝ }
 {
     let mut best = low;
     let mut l: usize = 0;

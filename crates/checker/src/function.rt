@@ -8,7 +8,7 @@ ghost use Rattle.rules.specs.Rule.{include, _also_};
 ghost use Rattle.rules.specs.Gap.{Finds};
 ghost use Rattle.program.specs.Program.{thisOf, formalsOf};
 ghost use Rattle.analysis.specs.Rules.{passing, calling, making, converting};
-ghost use Rattle.statements.specs.Desk.{desk};
+ghost use Rattle.views.specs.Arrays.{programBy};
 ghost use Rattle.checker.specs.Seen.{seen};
 ghost use Rattle.checker.specs.Kept.{Chains, Callees, Hurled, Gaps, Handed};
 use crate::gather::gather;
@@ -29,7 +29,7 @@ fn pass_arguments(
     low: usize,
 ) -> usize
     requires { ⌜ (2432 ≤ length (now t)) × (length (now args) ≡ 6) × (f < 64) × (length (now formals) ≡ 448) ⌝ }
-    ensures { λ r. ⌜ Finds 64 (seen d (now (t .entry))) (passing (desk [] [] (now (formals .entry)) [] []) (formalsOf (desk [] [] (now (formals .entry)) [] [] .sheet) f) (now (args .entry))) low r ⌝ }
+    ensures { λ r. ⌜ Finds 64 (seen d (now (t .entry))) (passing (programBy [] [] (now (formals .entry)) [] []) (formalsOf (programBy [] [] (now (formals .entry)) [] [] .sheet) f) (now (args .entry))) low r ⌝ }
 {
     let mut best = low;
     let mut j: usize = 0;
@@ -51,7 +51,7 @@ fn enter(
     low: usize,
 ) -> usize
     requires { ⌜ (2432 ≤ length (now t)) × (this < 256) × (length (now args) ≡ 6) × (f < 64) × (length (now formals) ≡ 448) ⌝ }
-    ensures { λ r. ⌜ Finds 64 (seen d (now (t .entry))) (include (variable (thisOf (desk [] [] (now (formals .entry)) [] [] .sheet) f)) (variable this) also passing (desk [] [] (now (formals .entry)) [] []) (formalsOf (desk [] [] (now (formals .entry)) [] [] .sheet) f) (now (args .entry))) low r ⌝ }
+    ensures { λ r. ⌜ Finds 64 (seen d (now (t .entry))) (include (variable (thisOf (programBy [] [] (now (formals .entry)) [] [] .sheet) f)) (variable this) also passing (programBy [] [] (now (formals .entry)) [] []) (formalsOf (programBy [] [] (now (formals .entry)) [] [] .sheet) f) (now (args .entry))) low r ⌝ }
 {
     let one = look_include(t, d, wide(formals[7 * f]), this, low);
     pass_arguments(t, d, formals, args, f, one)
@@ -74,7 +74,7 @@ pub fn call<'a>(
     low: usize,
 ) -> usize
     requires { ⌜ (2432 ≤ length (now t)) × (k < 64) × (y < 256) × (callee < 256) × (this < 256) × (length (now args) ≡ 6) × (length (now formals) ≡ 448) × (Handed (seen d (now t)) (now returned) (now handed)) × (Callees (seen d (now t)) (now types) (now callees)) ⌝ }
-    ensures { λ r. ⌜ Finds 64 (seen d (now (t .entry))) (calling (desk (now (types .entry)) [] (now (formals .entry)) [] (now (returned .entry))) k y callee this (now (args .entry))) low r ⌝ }
+    ensures { λ r. ⌜ Finds 64 (seen d (now (t .entry))) (calling (programBy (now (types .entry)) [] (now (formals .entry)) [] (now (returned .entry))) k y callee this (now (args .entry))) low r ⌝ }
 {
     let fs = callees[callee];
     let mut best = low;
@@ -110,7 +110,7 @@ pub fn make_new<'a>(
     low: usize,
 ) -> usize
     requires { ⌜ (2432 ≤ length (now t)) × (k < 64) × (y < 256) × (callee < 256) × (this < 256) × (l < 64) × (length (now args) ≡ 6) × (length (now formals) ≡ 448) × (Chains (seen d (now t)) (now chains)) × (Handed (seen d (now t)) (now returned) (now handed)) × (Callees (seen d (now t)) (now types) (now callees)) ⌝ }
-    ensures { λ r. ⌜ Finds 64 (seen d (now (t .entry))) (making (desk (now (types .entry)) [] (now (formals .entry)) [] (now (returned .entry))) k y callee this l (now (args .entry))) low r ⌝ }
+    ensures { λ r. ⌜ Finds 64 (seen d (now (t .entry))) (making (programBy (now (types .entry)) [] (now (formals .entry)) [] (now (returned .entry))) k y callee this l (now (args .entry))) low r ⌝ }
 {
     let one = look_give(t, d, this, l, low);
     let two = look_include(t, d, y, this, one);
@@ -155,7 +155,7 @@ pub fn convert<'a>(
     low: usize,
 ) -> usize
     requires { ⌜ (2432 ≤ length (now t)) × (k < 64) × (x < 256) × (Hurled (seen d (now t)) (now types) (now hurled)) × (Gaps (seen d (now t)) (now types) (now formals) (now gaps)) ⌝ }
-    ensures { λ r. ⌜ Finds 64 (seen d (now (t .entry))) (converting (desk (now (types .entry)) [] (now (formals .entry)) [] []) k x) low r ⌝ }
+    ensures { λ r. ⌜ Finds 64 (seen d (now (t .entry))) (converting (programBy (now (types .entry)) [] (now (formals .entry)) [] []) k x) low r ⌝ }
 {
     let best = lower_of(gaps[x], low);
     look_word(t, d, 2368 + k, hurled[x], best)

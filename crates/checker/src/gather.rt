@@ -4,8 +4,8 @@ ghost use Prim.Native.Nat.{_+_, _<_, _≤_};
 ghost use lib.ListN.{length};
 ghost use Rattle.program.specs.Program.{namesOf};
 ghost use Rattle.tables.specs.Sets.{Gathered, Properties};
-ghost use Rattle.statements.specs.Desk.{desk};
-ghost use Rattle.statements.specs.Range.{Key};
+ghost use Rattle.views.specs.Arrays.{programBy};
+ghost use Rattle.views.specs.Range.{Key};
 ghost use Rattle.checker.specs.Seen.{seen};
 ghost use Rattle.checker.specs.Kept.{Under, Unions};
 use crate::view::row_at;
@@ -79,7 +79,7 @@ pub fn under_name(t: &[u64], d: u64, ms: u64, n: usize) -> u64
 // The union of H(m,n) for the labels ms and the names n of a key: those of a class have their unions.
 pub fn under_key(t: &[u64], d: u64, masks: &[u8; 32], unions: &[u64; 512], ms: u64, key: u8) -> u64
     requires { ⌜ (2432 ≤ length (now t)) × Key key × (Unions (seen d (now t)) (now masks) (now unions)) ⌝ }
-    ensures { λ r. ⌜ Under (seen d (now (t .entry))) ms (namesOf (desk [] [] [] (now (masks .entry)) [] .sheet) key) r ⌝ }
+    ensures { λ r. ⌜ Under (seen d (now (t .entry))) ms (namesOf (programBy [] [] [] (now (masks .entry)) [] .sheet) key) r ⌝ }
 {
     let k = wide(key);
     if k < 128 {

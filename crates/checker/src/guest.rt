@@ -3,7 +3,7 @@ ghost use mathlib.Core.Path.{_≡_};
 ghost use Prim.Native.Nat.{_≤_};
 ghost use lib.ListN.{length};
 ghost use Rattle.rules.specs.Gap.{Finds};
-ghost use Rattle.statements.specs.Desk.{desk, guestRules};
+ghost use Rattle.views.specs.Arrays.{programBy, guestRules};
 ghost use Rattle.checker.specs.Seen.{seen};
 ghost use Rattle.checker.specs.Kept.{Names, Unions, Meets, Chains, Callees, Handed};
 use crate::function::call;
@@ -32,7 +32,7 @@ pub fn look_guest<'a>(
     low: usize,
 ) -> usize
     requires { ⌜ (2432 ≤ length (now t)) × (length (now formals) ≡ 448) × (Names (now masks) (now words)) × (Unions (seen d (now t)) (now masks) (now unions)) × (Meets (seen d (now t)) (now words) (now meets)) × (Chains (seen d (now t)) (now chains)) × (Handed (seen d (now t)) (now returned) (now handed)) × (Callees (seen d (now t)) (now types) (now callees)) ⌝ }
-    ensures { λ r. ⌜ Finds 64 (seen d (now (t .entry))) (guestRules (desk (now (types .entry)) (now (flags .entry)) (now (formals .entry)) (now (masks .entry)) (now (returned .entry)))) low r ⌝ }
+    ensures { λ r. ⌜ Finds 64 (seen d (now (t .entry))) (guestRules (programBy (now (types .entry)) (now (flags .entry)) (now (formals .entry)) (now (masks .entry)) (now (returned .entry)))) low r ⌝ }
 {
     let args = [1u8; 6];
     let made = look_give(t, d, 1, 3, low);

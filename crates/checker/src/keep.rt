@@ -9,7 +9,7 @@ ghost use Rattle.rules.specs.Rule.{include, over};
 ghost use Rattle.rules.specs.Round.{labels};
 ghost use Rattle.rules.specs.Gap.{Finds};
 ghost use Rattle.program.specs.Program.{returnsOf};
-ghost use Rattle.statements.specs.Desk.{desk};
+ghost use Rattle.views.specs.Arrays.{programBy};
 ghost use Rattle.checker.specs.Seen.{seen};
 ghost use Rattle.checker.specs.Kept.{Joined, Common, Names, Unions, Meets, Chains, Callees, Methods, Hurled, Gaps, Handed};
 ghost use Rattle.lookups.specs.Kept.{Exact};
@@ -17,8 +17,8 @@ use crate::gather::gather;
 use crate::gather::properties;
 use crate::row::look_include;
 use crate::view::row_at;
-use statements::names::names_of;
 use tables::wide;
+use views::names::names_of;
 
 // The names of each class.
 pub fn keep_names(masks: &[u8; 32], words: &mut [u64; 8])
@@ -198,7 +198,7 @@ pub fn keep_gaps(
 // What returns in scope f hand back: the union of four words of variables.
 fn handed_word(t: &[u64], d: u64, returned: &[u64; 256], f: usize) -> u64
     requires { ⌜ (2432 ≤ length (now t)) × (f < 64) ⌝ }
-    ensures { λ r. ⌜ Joined (seen d (now (t .entry))) (returnsOf (desk [] [] [] [] (now (returned .entry))) f) 0 r ⌝ }
+    ensures { λ r. ⌜ Joined (seen d (now (t .entry))) (returnsOf (programBy [] [] [] [] (now (returned .entry))) f) 0 r ⌝ }
 {
     let first = gather(t, d, returned[4 * f], 0);
     let second = gather(t, d, returned[4 * f + 1], 64);

@@ -5,7 +5,7 @@ ghost use lib.ListN.{length};
 ghost use Rattle.layout.specs.Layout.{bodyLength};
 ghost use Rattle.rules.specs.Gap.{Finds};
 ghost use Rattle.format.specs.Reading.{Readable};
-ghost use Rattle.statements.specs.Desk.{desk, hostRules, passRules};
+ghost use Rattle.views.specs.Arrays.{programBy, hostRules, passRules};
 ghost use Rattle.checker.specs.Seen.{seen};
 ghost use Rattle.checker.specs.Kept.{Kept};
 use crate::chain::look_chains;
@@ -47,7 +47,7 @@ pub fn look_records<'a>(
     low: usize,
 ) -> usize
     requires { ⌜ (2432 ≤ length (now t)) × Readable 64 (now file) × (length (now formals) ≡ 448) × Kept (seen d (now t)) (now types) (now formals) (now masks) (now returned) (now words) (now unions) (now meets) (now chains) (now callees) (now hurled) (now gaps) (now handed) ⌝ }
-    ensures { λ r. ⌜ Finds 64 (seen d (now (t .entry))) (hostRules (desk (now (types .entry)) (now (flags .entry)) (now (formals .entry)) (now (masks .entry)) (now (returned .entry))) (now (file .entry))) low r ⌝ }
+    ensures { λ r. ⌜ Finds 64 (seen d (now (t .entry))) (hostRules (programBy (now (types .entry)) (now (flags .entry)) (now (formals .entry)) (now (masks .entry)) (now (returned .entry))) (now (file .entry))) low r ⌝ }
 {
     let mut best = low;
     let mut at: usize = 0;
@@ -99,7 +99,7 @@ pub fn look_all<'a>(
     handed: &[u64; 64],
 ) -> usize
     requires { ⌜ (2432 ≤ length (now t)) × Readable 64 (now file) × (length (now formals) ≡ 448) × Kept (seen d (now t)) (now types) (now formals) (now masks) (now returned) (now words) (now unions) (now meets) (now chains) (now callees) (now hurled) (now gaps) (now handed) ⌝ }
-    ensures { λ r. ⌜ Finds 64 (seen d (now (t .entry))) (passRules (desk (now (types .entry)) (now (flags .entry)) (now (formals .entry)) (now (masks .entry)) (now (returned .entry))) (now (file .entry))) 2432 r ⌝ }
+    ensures { λ r. ⌜ Finds 64 (seen d (now (t .entry))) (passRules (programBy (now (types .entry)) (now (flags .entry)) (now (formals .entry)) (now (masks .entry)) (now (returned .entry))) (now (file .entry))) 2432 r ⌝ }
 {
     let one = look_chains(t, d, types, 2432);
     let two = look_guest_chain(t, d, one);

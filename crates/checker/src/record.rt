@@ -4,8 +4,8 @@ ghost use Prim.Native.Nat.{_≤_};
 ghost use mathlib.Core.Path.{_≡_};
 ghost use lib.ListN.{length};
 ghost use Rattle.rules.specs.Gap.{Finds};
-ghost use Rattle.statements.specs.Desk.{desk, recordRule};
-ghost use Rattle.statements.specs.Range.{InRange};
+ghost use Rattle.views.specs.Arrays.{programBy, recordRule};
+ghost use Rattle.views.specs.Range.{InRange};
 ghost use Rattle.checker.specs.Seen.{seen};
 ghost use Rattle.checker.specs.Kept.{Names, Unions, Meets, Chains, Callees, Hurled, Gaps, Handed, Kept};
 use crate::function::call;
@@ -23,7 +23,7 @@ use tables::wide;
 // 5: variable v, owner scope, name: S(v) = H(0,n), where it has a name.
 fn variable_record(t: &[u64], d: u64, body: &[u8], low: usize) -> usize
     requires { ⌜ (2432 ≤ length (now t)) × InRange 5 (now body) ⌝ }
-    ensures { λ r. ⌜ Finds 64 (seen d (now (t .entry))) (recordRule (desk [] [] [] [] []) 5 (now (body .entry))) low r ⌝ }
+    ensures { λ r. ⌜ Finds 64 (seen d (now (t .entry))) (recordRule (programBy [] [] [] [] []) 5 (now (body .entry))) low r ⌝ }
 {
     let name = body[2];
     if name == 255 {
@@ -38,7 +38,7 @@ fn variable_record(t: &[u64], d: u64, body: &[u8], low: usize) -> usize
 // 6: grant v, between v and the bag each way.
 fn grant_record(t: &[u64], d: u64, body: &[u8], low: usize) -> usize
     requires { ⌜ (2432 ≤ length (now t)) × InRange 6 (now body) ⌝ }
-    ensures { λ r. ⌜ Finds 64 (seen d (now (t .entry))) (recordRule (desk [] [] [] [] []) 6 (now (body .entry))) low r ⌝ }
+    ensures { λ r. ⌜ Finds 64 (seen d (now (t .entry))) (recordRule (programBy [] [] [] [] []) 6 (now (body .entry))) low r ⌝ }
 {
     let v = Var(body[0]).row();
     let best = look_include(t, d, 1, v, low);
@@ -48,7 +48,7 @@ fn grant_record(t: &[u64], d: u64, body: &[u8], low: usize) -> usize
 // 7: property l, n, l'.
 fn property_record(t: &[u64], d: u64, body: &[u8], low: usize) -> usize
     requires { ⌜ (2432 ≤ length (now t)) × InRange 7 (now body) ⌝ }
-    ensures { λ r. ⌜ Finds 64 (seen d (now (t .entry))) (recordRule (desk [] [] [] [] []) 7 (now (body .entry))) low r ⌝ }
+    ensures { λ r. ⌜ Finds 64 (seen d (now (t .entry))) (recordRule (programBy [] [] [] [] []) 7 (now (body .entry))) low r ⌝ }
 {
     let h = Label(body[0]).property_row(Name(body[1]));
     look_give(t, d, h, wide(body[2]), low)
@@ -57,7 +57,7 @@ fn property_record(t: &[u64], d: u64, body: &[u8], low: usize) -> usize
 // 8: held v, l.
 fn held_record(t: &[u64], d: u64, body: &[u8], low: usize) -> usize
     requires { ⌜ (2432 ≤ length (now t)) × InRange 8 (now body) ⌝ }
-    ensures { λ r. ⌜ Finds 64 (seen d (now (t .entry))) (recordRule (desk [] [] [] [] []) 8 (now (body .entry))) low r ⌝ }
+    ensures { λ r. ⌜ Finds 64 (seen d (now (t .entry))) (recordRule (programBy [] [] [] [] []) 8 (now (body .entry))) low r ⌝ }
 {
     let v = Var(body[0]).row();
     look_give(t, d, v, wide(body[1]), low)
@@ -66,7 +66,7 @@ fn held_record(t: &[u64], d: u64, body: &[u8], low: usize) -> usize
 // 16: copy k, y, source.
 fn copy_record(t: &[u64], d: u64, body: &[u8], low: usize) -> usize
     requires { ⌜ (2432 ≤ length (now t)) × InRange 16 (now body) ⌝ }
-    ensures { λ r. ⌜ Finds 64 (seen d (now (t .entry))) (recordRule (desk [] [] [] [] []) 16 (now (body .entry))) low r ⌝ }
+    ensures { λ r. ⌜ Finds 64 (seen d (now (t .entry))) (recordRule (programBy [] [] [] [] []) 16 (now (body .entry))) low r ⌝ }
 {
     let y = Var(body[1]).row();
     let x = Var(body[2]).row();
@@ -84,7 +84,7 @@ fn load_record(
     low: usize,
 ) -> usize
     requires { ⌜ (2432 ≤ length (now t)) × InRange 17 (now body) × (Unions (seen d (now t)) (now masks) (now unions)) × (Chains (seen d (now t)) (now chains)) ⌝ }
-    ensures { λ r. ⌜ Finds 64 (seen d (now (t .entry))) (recordRule (desk [] [] [] (now (masks .entry)) []) 17 (now (body .entry))) low r ⌝ }
+    ensures { λ r. ⌜ Finds 64 (seen d (now (t .entry))) (recordRule (programBy [] [] [] (now (masks .entry)) []) 17 (now (body .entry))) low r ⌝ }
 {
     let y = wide(body[1]);
     let x = wide(body[2]);
@@ -104,7 +104,7 @@ fn store_record<'a>(
     low: usize,
 ) -> usize
     requires { ⌜ (2432 ≤ length (now t)) × InRange 18 (now body) × (Names (now masks) (now words)) × (Meets (seen d (now t)) (now words) (now meets)) ⌝ }
-    ensures { λ r. ⌜ Finds 64 (seen d (now (t .entry))) (recordRule (desk [] (now (flags .entry)) [] (now (masks .entry)) []) 18 (now (body .entry))) low r ⌝ }
+    ensures { λ r. ⌜ Finds 64 (seen d (now (t .entry))) (recordRule (programBy [] (now (flags .entry)) [] (now (masks .entry)) []) 18 (now (body .entry))) low r ⌝ }
 {
     let x = wide(body[1]);
     let a = wide(body[3]);
@@ -114,7 +114,7 @@ fn store_record<'a>(
 // 19: make k, y, l.
 fn make_record(t: &[u64], d: u64, body: &[u8], low: usize) -> usize
     requires { ⌜ (2432 ≤ length (now t)) × InRange 19 (now body) ⌝ }
-    ensures { λ r. ⌜ Finds 64 (seen d (now (t .entry))) (recordRule (desk [] [] [] [] []) 19 (now (body .entry))) low r ⌝ }
+    ensures { λ r. ⌜ Finds 64 (seen d (now (t .entry))) (recordRule (programBy [] [] [] [] []) 19 (now (body .entry))) low r ⌝ }
 {
     let y = Var(body[1]).row();
     look_give(t, d, y, wide(body[2]), low)
@@ -123,7 +123,7 @@ fn make_record(t: &[u64], d: u64, body: &[u8], low: usize) -> usize
 // 20: make function k, y, l, q.
 fn function_record(t: &[u64], d: u64, body: &[u8], low: usize) -> usize
     requires { ⌜ (2432 ≤ length (now t)) × InRange 20 (now body) ⌝ }
-    ensures { λ r. ⌜ Finds 64 (seen d (now (t .entry))) (recordRule (desk [] [] [] [] []) 20 (now (body .entry))) low r ⌝ }
+    ensures { λ r. ⌜ Finds 64 (seen d (now (t .entry))) (recordRule (programBy [] [] [] [] []) 20 (now (body .entry))) low r ⌝ }
 {
     let y = Var(body[1]).row();
     let h = Label(body[2]).property_row(Name(3));
@@ -144,7 +144,7 @@ fn call_record<'a>(
     low: usize,
 ) -> usize
     requires { ⌜ (2432 ≤ length (now t)) × InRange 21 (now body) × (length (now formals) ≡ 448) × (Handed (seen d (now t)) (now returned) (now handed)) × (Callees (seen d (now t)) (now types) (now callees)) ⌝ }
-    ensures { λ r. ⌜ Finds 64 (seen d (now (t .entry))) (recordRule (desk (now (types .entry)) [] (now (formals .entry)) [] (now (returned .entry))) 21 (now (body .entry))) low r ⌝ }
+    ensures { λ r. ⌜ Finds 64 (seen d (now (t .entry))) (recordRule (programBy (now (types .entry)) [] (now (formals .entry)) [] (now (returned .entry))) 21 (now (body .entry))) low r ⌝ }
 {
     let k = wide(body[0]);
     let y = wide(body[1]);
@@ -181,7 +181,7 @@ fn new_record<'a>(
     low: usize,
 ) -> usize
     requires { ⌜ (2432 ≤ length (now t)) × InRange 22 (now body) × (length (now formals) ≡ 448) × (Chains (seen d (now t)) (now chains)) × (Handed (seen d (now t)) (now returned) (now handed)) × (Callees (seen d (now t)) (now types) (now callees)) ⌝ }
-    ensures { λ r. ⌜ Finds 64 (seen d (now (t .entry))) (recordRule (desk (now (types .entry)) [] (now (formals .entry)) [] (now (returned .entry))) 22 (now (body .entry))) low r ⌝ }
+    ensures { λ r. ⌜ Finds 64 (seen d (now (t .entry))) (recordRule (programBy (now (types .entry)) [] (now (formals .entry)) [] (now (returned .entry))) 22 (now (body .entry))) low r ⌝ }
 {
     let k = wide(body[0]);
     let y = wide(body[1]);
@@ -210,7 +210,7 @@ fn new_record<'a>(
 // 24: throw k, value.
 fn throw_record(t: &[u64], d: u64, body: &[u8], low: usize) -> usize
     requires { ⌜ (2432 ≤ length (now t)) × InRange 24 (now body) ⌝ }
-    ensures { λ r. ⌜ Finds 64 (seen d (now (t .entry))) (recordRule (desk [] [] [] [] []) 24 (now (body .entry))) low r ⌝ }
+    ensures { λ r. ⌜ Finds 64 (seen d (now (t .entry))) (recordRule (programBy [] [] [] [] []) 24 (now (body .entry))) low r ⌝ }
 {
     let k = Label(body[0]).thrown_row();
     let x = Var(body[1]).row();
@@ -220,7 +220,7 @@ fn throw_record(t: &[u64], d: u64, body: &[u8], low: usize) -> usize
 // 25: catch k, y.
 fn catch_record(t: &[u64], d: u64, body: &[u8], low: usize) -> usize
     requires { ⌜ (2432 ≤ length (now t)) × InRange 25 (now body) ⌝ }
-    ensures { λ r. ⌜ Finds 64 (seen d (now (t .entry))) (recordRule (desk [] [] [] [] []) 25 (now (body .entry))) low r ⌝ }
+    ensures { λ r. ⌜ Finds 64 (seen d (now (t .entry))) (recordRule (programBy [] [] [] [] []) 25 (now (body .entry))) low r ⌝ }
 {
     let k = Label(body[0]).thrown_row();
     let y = Var(body[1]).row();
@@ -239,7 +239,7 @@ fn prim_record<'a>(
     low: usize,
 ) -> usize
     requires { ⌜ (2432 ≤ length (now t)) × InRange 26 (now body) × (Hurled (seen d (now t)) (now types) (now hurled)) × (Gaps (seen d (now t)) (now types) (now formals) (now gaps)) ⌝ }
-    ensures { λ r. ⌜ Finds 64 (seen d (now (t .entry))) (recordRule (desk (now (types .entry)) [] (now (formals .entry)) [] []) 26 (now (body .entry))) low r ⌝ }
+    ensures { λ r. ⌜ Finds 64 (seen d (now (t .entry))) (recordRule (programBy (now (types .entry)) [] (now (formals .entry)) [] []) 26 (now (body .entry))) low r ⌝ }
 {
     let k = wide(body[0]);
     let x = wide(body[1]);
@@ -268,7 +268,7 @@ pub fn look_record<'a>(
     low: usize,
 ) -> usize
     requires { ⌜ (2432 ≤ length (now t)) × InRange kind (now body) × (length (now formals) ≡ 448) × Kept (seen d (now t)) (now types) (now formals) (now masks) (now returned) (now words) (now unions) (now meets) (now chains) (now callees) (now hurled) (now gaps) (now handed) ⌝ }
-    ensures { λ r. ⌜ Finds 64 (seen d (now (t .entry))) (recordRule (desk (now (types .entry)) (now (flags .entry)) (now (formals .entry)) (now (masks .entry)) (now (returned .entry))) kind (now (body .entry))) low r ⌝ }
+    ensures { λ r. ⌜ Finds 64 (seen d (now (t .entry))) (recordRule (programBy (now (types .entry)) (now (flags .entry)) (now (formals .entry)) (now (masks .entry)) (now (returned .entry))) kind (now (body .entry))) low r ⌝ }
 {
     match kind {
         5 => variable_record(t, d, body, low),

@@ -10,8 +10,8 @@ ghost use Rattle.rules.specs.Rule.{include, each, over, when};
 ghost use Rattle.rules.specs.Round.{labels};
 ghost use Rattle.rules.specs.Gap.{Finds};
 ghost use Rattle.analysis.specs.Rules.{loading, storing};
-ghost use Rattle.statements.specs.Desk.{desk};
-ghost use Rattle.statements.specs.Range.{Key};
+ghost use Rattle.views.specs.Arrays.{programBy};
+ghost use Rattle.views.specs.Range.{Key};
 ghost use Rattle.checker.specs.Seen.{seen};
 ghost use Rattle.checker.specs.Kept.{Common, nameWord, Names, Unions, Meets, Chains};
 use crate::gather::under_key;
@@ -36,7 +36,7 @@ pub fn load(
     low: usize,
 ) -> usize
     requires { ⌜ (2432 ≤ length (now t)) × (y < 256) × (x < 256) × Key key × (w < 64) × (Unions (seen d (now t)) (now masks) (now unions)) × (Chains (seen d (now t)) (now chains)) ⌝ }
-    ensures { λ r. ⌜ Finds 64 (seen d (now (t .entry))) (loading (desk [] [] [] (now (masks .entry)) []) y x key w) low r ⌝ }
+    ensures { λ r. ⌜ Finds 64 (seen d (now (t .entry))) (loading (programBy [] [] [] (now (masks .entry)) []) y x key w) low r ⌝ }
 {
     let best = look_give(t, d, x, w, low);
     let ms = words::join(chains[x], row_at(t, d, 2304 + w));
@@ -110,7 +110,7 @@ pub fn store<'a>(
     low: usize,
 ) -> usize
     requires { ⌜ (2432 ≤ length (now t)) × (x < 256) × Key key × (a < 256) × (Names (now masks) (now words)) × (Meets (seen d (now t)) (now words) (now meets)) ⌝ }
-    ensures { λ r. ⌜ Finds 64 (seen d (now (t .entry))) (storing (desk [] (now (flags .entry)) [] (now (masks .entry)) []) x key a) low r ⌝ }
+    ensures { λ r. ⌜ Finds 64 (seen d (now (t .entry))) (storing (programBy [] (now (flags .entry)) [] (now (masks .entry)) []) x key a) low r ⌝ }
 {
     let names = names_at(words, key);
     let w = row_at(t, d, x);

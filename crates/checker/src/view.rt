@@ -6,7 +6,7 @@ ghost use Prim.Native.Nat.{_^_, _<_, _≤_};
 ghost use lib.ListN.{getD, length};
 ghost use lib.Dec.{eqb};
 ghost use Rattle.words.specs.Words.{union};
-ghost use Rattle.statements.specs.Desk.{desk};
+ghost use Rattle.views.specs.Arrays.{programBy};
 ghost use Rattle.verdicts.specs.Check.{declaredWord};
 ghost use Rattle.checker.specs.Seen.{seen};
 
@@ -34,7 +34,7 @@ fn with_label(w: u64, kind: u8, l: usize) -> u64
 
 // The declared labels.
 pub fn declared_word(types: &[u8; 64]) -> u64
-    ensures { λ r. ⌜ r ≡ declaredWord 64 (desk (now (types .entry)) [] [] [] [] .sheet) ⌝ }
+    ensures { λ r. ⌜ r ≡ declaredWord 64 (programBy (now (types .entry)) [] [] [] [] .sheet) ⌝ }
 {
     let mut w: u64 = 0;
     let mut l: usize = 0;

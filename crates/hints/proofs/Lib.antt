@@ -1,2 +1,3 @@
 -- The laws of walking over a file. Assumes nothing.
 pub mod Walk
+pub mod Begins

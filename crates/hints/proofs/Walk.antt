@@ -3,10 +3,10 @@ use mathlib.Core.Path.{_≡_, refl, sym, ap, _∙_, subst}
 use mathlib.Core.List.{List, [], _∷_, _++_, append-assoc, List·Memᴰ, List·Memᴰ·head, List·Memᴰ·tail}
 use Prim.Native.Nat.{ℕ, suc, _+_, _-_, _≤_, _<_}
 use native.Mathlib.Numerals.{add-one}
-use native.Mathlib.Decide.{ℕ-discrete, decLt}
+use native.Mathlib.Decide.{decLt}
 use native.Mathlib.Omega.{arith}
-use lib.ListN.{length, getD, set, take, drop, length-drop, length-append}
-use lib.Seq.{getD-set-same, getD-set-other, drop-cons, drop-drop, take-at, drop-at}
+use lib.ListN.{length, getD, take, drop, length-drop, length-append}
+use lib.Seq.{drop-cons, drop-drop, take-at, drop-at}
 use Rattle.layout.specs.Layout.{bodyLength}
 use Rattle.layout.proofs.Table.{no-kind}
 use Rattle.format.specs.Records.{Record}
@@ -14,9 +14,9 @@ use Rattle.format.specs.Reading.{Reading, readFile, Readable, written, position
 use Rattle.format.proofs.File.{Read, readable-read, read-is}
 use Rattle.format.proofs.Ready.{Made}
 use Rattle.format.proofs.Readable.{readable-ready}
-use Rattle.statements.specs.Range.{InRange}
-use Rattle.statements.proofs.Ranges.{fits-in-range}
-use Rattle.hints.specs.Walk.{Sound, AllSound, Walk}
+use Rattle.views.specs.Range.{InRange}
+use Rattle.views.proofs.Ranges.{fits-in-range}
+use Rattle.hints.specs.Walk.{Sound, AllSound, Walk, bodyAt}
 
 all-sound : (at : ℕ) (rs : List Record) → ((a : ℕ) (r : Record) → List·Memᴰ (a, r) (positioned at rs) → Sound r) → AllSound rs
 unfolding positioned
@@ -48,15 +48,6 @@ walk-first file ok =
 pub first-done : (file : List ℕ) (ok : Readable 64 file) → walk-first file ok .done ≡ []
 unfolding walk-first
 first-done file ok = refl
-
--- one more position where a record begins
-pub more-starts : {file : List ℕ} (starts : List ℕ) (i at : ℕ) → i < length starts → Walk file at
-    → ((b : ℕ) → b < 256 → Walk file (getD starts b 0)) → (b : ℕ) → b < 256 → Walk file (getD (set starts i at) b 0)
-more-starts {file} starts i at h w each b k = go (ℕ-discrete b i)
-  where
-    go : Dec (b ≡ i) → Walk file (getD (set starts i at) b 0)
-    go (yes e) = rw (e, getD-set-same starts i at 0 h) w
-    go (no d) = rw (getD-set-other starts i b at 0 d) (each b k)
 
 -- the record at the front of the bytes left
 pub record Head (file : List ℕ) (at : ℕ) (rest : List Record) : Type 0 where
@@ -93,15 +84,13 @@ module _ {file : List ℕ} {at : ℕ} (w : Walk file at) (h : at < length file) 
   walk-room =
       omega (arith, size, length-drop (suc at) file, ap length (here .after), length-append (here .front .body) (written (here .others)))
 
+  pub body-at : bodyAt file at ≡ here .front .body
+  body-at = rw (add-one, here .after) (take-at (here .front .body) (written (here .others)) (bodyLength (getD file at 0)) size)
+
+  pub body-range : InRange (getD file at 0) (bodyAt file at)
+  body-range = rw (body-at, here .kind) (here .sound .1)
+
   module _ (n : ℕ) (e : n ≡ bodyLength (getD file at 0)) where
-    pub walk-body : take (at + 1 + n - (at + 1)) (drop (at + 1) file) ≡ here .front .body
-    walk-body =
-        let q : at + 1 + n - (at + 1) ≡ n = omega arith in
-        rw (q, add-one, here .after) (take-at (here .front .body) (written (here .others)) n (size ∙ sym e))
-
-    pub walk-range : InRange (getD file at 0) (take (at + 1 + n - (at + 1)) (drop (at + 1) file))
-    walk-range = rw (walk-body, here .kind) (here .sound .1)
-
     left : drop (at + 1 + n) file ≡ written (here .others)
     left =
         let q : at + 1 + n ≡ suc at + n = omega arith in

@@ -1,9 +1,11 @@
-// The index: for each byte value, in which blocks of 64 bytes a record reads the variable or label of that number, and for each name, in which blocks a
-// record looks under it.
-ghost use Prim.Native.Nat.{ℕ, _<_, _≤_};
+// The index: for each byte value, in which blocks of 128 bytes a record reads the variable or label of that number, for each name, in which blocks a record
+// looks under it, and for each byte of the file, whether a record begins there, and whether a load does.
+ghost use Prim.Native.Nat.{ℕ, _+_, _*_, _<_, _≤_};
 ghost use mathlib.Core.Path.{_≡_};
+ghost use mathlib.Core.Logic.{_⊎_};
 ghost use lib.ListN.{length, getD};
-ghost use Rattle.hints.specs.Walk.{Walk};
+ghost use Rattle.words.specs.Words.{bit};
+ghost use Rattle.hints.specs.Walk.{Walk, BeginsFrom};
 use tables::wide;
 
 // What makes a record worth a look, for each kind and each byte of its body, as a sum: as a variable, 1 where it grew, 2 where its chains did, 4 where
@@ -67,14 +69,14 @@ fn names_of_key(classes: &[u64; 8], key: u8) -> u64 {
 }
 
 // The block, for each name of the key.
-fn note_names(named: &mut [u64; 256], names: u64, part: usize, block: u64)
-    requires { ⌜ (part < 8) × (length (now named) ≡ 256) ⌝ }
-    ensures { λ _. ⌜ length (now (named .exit)) ≡ 256 ⌝ }
+fn note_names(named: &mut [u64; 128], names: u64, part: usize, block: u64)
+    requires { ⌜ (part < 4) × (length (now named) ≡ 128) ⌝ }
+    ensures { λ _. ⌜ length (now (named .exit)) ≡ 128 ⌝ }
 {
     let mut rest = names;
     let mut n = words::first(rest);
     while n < 64 {
-        let place = 8 * (n % 32) + part;
+        let place = 4 * (n % 32) + part;
         named[place] = words::join(named[place], block);
         rest = words::rest(rest);
         n = words::first(rest);
@@ -85,14 +87,14 @@ fn note_names(named: &mut [u64; 256], names: u64, part: usize, block: u64)
 fn note_byte(
     classes: &[u64; 8],
     reads: &mut [u64; 256],
-    named: &mut [u64; 256],
+    named: &mut [u64; 128],
     need: u16,
     byte: u8,
     part: usize,
     block: u64,
 )
-    requires { ⌜ (part < 8) × (length (now reads) ≡ 256) × (length (now named) ≡ 256) ⌝ }
-    ensures { λ _. ⌜ (length (now (reads .exit)) ≡ 256) × (length (now (named .exit)) ≡ 256) ⌝ }
+    requires { ⌜ (part < 4) × (length (now reads) ≡ 256) × (length (now named) ≡ 128) ⌝ }
+    ensures { λ _. ⌜ (length (now (reads .exit)) ≡ 256) × (length (now (named .exit)) ≡ 128) ⌝ }
 {
     if need == 0 {
         return;
@@ -105,33 +107,53 @@ fn note_byte(
     reads[v] = words::join(reads[v], block);
 }
 
-// The records from `from` on that begin before `end`, where the next of them begins is the answer; the first of each 128 bytes is kept in `starts`.
+// One position more where a record begins, if `yes`, of the 16,384 from `half` on.
+fn place(yes: bool, starts: &mut [u64; 256], half: usize, at: usize)
+    requires { ⌜ length (now starts) ≡ 256 ⌝ }
+    ensures { λ _. ⌜ ((b i : ℕ) → b < 256 → bit (getD (now (starts .exit)) b 0) i ≡ 1 → (half + (64 * b + i) ≡ at) ⊎ (bit (getD (now (starts .entry)) b 0) i ≡ 1)) ⌝ }
+    ensures { λ _. ⌜ length (now (starts .exit)) ≡ 256 ⌝ }
+{
+    if !yes {
+        return;
+    }
+    if at < half {
+        return;
+    }
+    let q = at - half;
+    if 16384 <= q {
+        return;
+    }
+    starts[q / 64] = words::join(starts[q / 64], words::single(q % 64));
+}
+
+// The records from `from` on that begin before `end`, where the next of them begins is the answer; `starts` and `loads` are about the positions from `half`
+// on.
 pub fn index(
     file: &[u8],
     classes: &[u64; 8],
     needs: &[u16; 297],
-    starts: &mut [usize; 256],
+    starts: &mut [u64; 256],
+    loads: &mut [u64; 256],
     reads: &mut [u64; 256],
-    named: &mut [u64; 256],
+    named: &mut [u64; 128],
+    half: usize,
     from: usize,
     end: usize,
 ) -> usize
-    requires { ⌜ Walk (now file) from × (length (now file) ≤ 32768) × (length (now starts) ≡ 256) × (length (now reads) ≡ 256) × (length (now named) ≡ 256) × ((b : ℕ) → b < 256 → Walk (now file) (getD (now starts) b 0)) ⌝ }
-    ensures { λ r. ⌜ Walk (now (file .entry)) r ⌝ }
-    ensures { λ _. ⌜ ((b : ℕ) → b < 256 → Walk (now (file .entry)) (getD (now (starts .exit)) b 0)) ⌝ }
-    ensures { λ _. ⌜ (length (now (starts .exit)) ≡ 256) × (length (now (reads .exit)) ≡ 256) × (length (now (named .exit)) ≡ 256) ⌝ }
+    requires { ⌜ Walk (now file) from × (length (now file) ≤ 32768) × (length (now starts) ≡ 256) × (length (now loads) ≡ 256) × (length (now reads) ≡ 256) × (length (now named) ≡ 128) × BeginsFrom (now file) half (now starts) × BeginsFrom (now file) half (now loads) ⌝ }
+    ensures { λ r. ⌜ Walk (now (file .entry)) r × BeginsFrom (now (file .entry)) half (now (starts .exit)) × BeginsFrom (now (file .entry)) half (now (loads .exit)) ⌝ }
+    ensures { λ _. ⌜ (length (now (starts .exit)) ≡ 256) × (length (now (loads .exit)) ≡ 256) × (length (now (reads .exit)) ≡ 256) × (length (now (named .exit)) ≡ 128) ⌝ }
 {
     let lengths = layout::lengths();
     let mut at = from;
     while (at < end) & (at < file.len()) {
         let kind = wide(file[at]);
         let n = wide(lengths[kind]);
-        let b = at / 64;
+        let b = at / 128;
         let block = words::single(b % 64);
         let part = b / 64;
-        if starts[at / 128] == 0 {
-            starts[at / 128] = at;
-        }
+        place(true, starts, half, at);
+        place(kind == 17, loads, half, at);
         let mut j: usize = 0;
         while j < n {
             note_byte(

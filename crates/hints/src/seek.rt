@@ -1,8 +1,10 @@
 // The next record that is worth a look.
-ghost use Prim.Native.Nat.{ℕ, _+_, _<_, _≤_};
+ghost use Prim.Native.Nat.{ℕ, _+_, _*_, _<_, _≤_};
 ghost use mathlib.Core.Path.{_≡_};
-ghost use lib.ListN.{length, getD};
-ghost use Rattle.hints.specs.Walk.{Walk};
+ghost use mathlib.Core.List.{List};
+ghost use lib.ListN.{length};
+ghost use Rattle.words.specs.Words.{bit};
+ghost use Rattle.hints.specs.Walk.{Walk, Begins};
 use tables::wide;
 
 // A sum as a word.
@@ -128,26 +130,144 @@ fn wakes(
     words::without(news, t[wide(bytes[1])]) != 0
 }
 
-// The first marked block from `from` on, 512 where there is none.
-fn next_marked(marks: &[u64; 8], from: usize) -> usize
-    requires { ⌜ from ≤ 512 ⌝ }
+// Whether a load of this body lacks some of what grew in properties that it may look at.
+fn lacks(t: &[u64], roles: &[u64; 256], news: u64, bytes: &[u8]) -> bool
+    requires { ⌜ (2432 ≤ length (now t)) × (length (now bytes) ≡ 11) ⌝ }
 {
-    if 512 <= from {
-        return 512;
+    let some = words::without(news, t[wide(bytes[1])]) != 0;
+    let on = words::meet(roles[wide(bytes[2])], 32) != 0;
+    let under = words::meet(roles[wide(bytes[3])], 512) != 0;
+    some & (on & under)
+}
+
+// Whether the record at `at` is worth a look: any record where `all`, else only a load. At the end of the file every record is.
+fn worth(
+    t: &[u64],
+    flags: &[u8; 64],
+    lower_meets: &[u64; 256],
+    upper_meets: &[u64; 256],
+    file: &[u8],
+    needs: &[u16; 297],
+    roles: &[u64; 256],
+    news: u64,
+    all: bool,
+    at: usize,
+) -> bool
+    requires { ⌜ (2432 ≤ length (now t)) × (length (now file) ≤ 32768) × Walk (now file) at ⌝ }
+{
+    if file.len() < at + 12 {
+        return true;
     }
-    let rest = words::above(marks[from / 64], from % 64);
+    let bytes = &file[at + 1..at + 12];
+    if all {
+        return wakes(
+            t,
+            flags,
+            lower_meets,
+            upper_meets,
+            needs,
+            roles,
+            news,
+            wide(file[at]),
+            bytes,
+        );
+    }
+    lacks(t, roles, news, bytes)
+}
+
+// The first record worth a look of those that begin at the bits of a word, counted from `from`; the end of the file where there is none.
+fn among(
+    t: &[u64],
+    flags: &[u8; 64],
+    lower_meets: &[u64; 256],
+    upper_meets: &[u64; 256],
+    file: &[u8],
+    needs: &[u16; 297],
+    roles: &[u64; 256],
+    news: u64,
+    all: bool,
+    word: u64,
+    from: usize,
+) -> usize
+    requires { ⌜ (2432 ≤ length (now t)) × (length (now file) ≤ 32768) × (from ≤ length (now file)) × ((i : ℕ) → bit word i ≡ 1 → Walk (now file) (from + i)) ⌝ }
+    ensures { λ r. ⌜ (from ≤ r) × (r < length (now (file .entry)) → Walk (now (file .entry)) r) ⌝ }
+{
+    let mut rest = word;
+    let mut l = words::first(rest);
+    while l < 64 {
+        if worth(
+            t,
+            flags,
+            lower_meets,
+            upper_meets,
+            file,
+            needs,
+            roles,
+            news,
+            all,
+            from + l,
+        ) {
+            return from + l;
+        }
+        rest = words::rest(rest);
+        l = words::first(rest);
+    }
+    file.len()
+}
+
+// Where the records of the w-th 64 bytes begin that may be worth a look: all of them where `all`, else the loads.
+fn places(
+    all: bool,
+    starts_low: &[u64; 256],
+    starts_high: &[u64; 256],
+    loads_low: &[u64; 256],
+    loads_high: &[u64; 256],
+    w: usize,
+) -> u64
+    requires { ⌜ w < 512 ⌝ }
+    ensures { λ r. ⌜ ((file : List ℕ) → Begins file (now («starts_low» .entry)) (now («starts_high» .entry)) → Begins file (now («loads_low» .entry)) (now («loads_high» .entry)) → (i : ℕ) → bit r i ≡ 1 → Walk file (64 * w + i)) ⌝ }
+{
+    if w < 256 {
+        return if all { starts_low[w] } else { loads_low[w] };
+    }
+    if all {
+        starts_high[w - 256]
+    } else {
+        loads_high[w - 256]
+    }
+}
+
+// The first marked block from `from` on, 256 where there is none.
+fn next_marked(marks: &[u64; 8], from: usize) -> usize
+    requires { ⌜ from ≤ 256 ⌝ }
+    ensures { λ r. ⌜ r ≤ 320 ⌝ }
+{
+    if 256 <= from {
+        return 256;
+    }
+    let p = from / 64;
+    let rest = words::above(words::join(marks[p], marks[4 + p]), from % 64);
     if rest != 0 {
         return from + words::first(rest);
     }
-    let mut q = from / 64 + 1;
-    while q < 8 {
-        let some = marks[q];
+    let mut q = p + 1;
+    while q < 4 {
+        let some = words::join(marks[q], marks[4 + q]);
         if some != 0 {
             return 64 * q + words::first(some);
         }
         q += 1;
     }
-    512
+    256
+}
+
+// The first position from `from` on in a marked block.
+fn onward(marks: &[u64; 8], from: usize) -> usize
+    requires { ⌜ from ≤ 32768 ⌝ }
+    ensures { λ r. ⌜ from ≤ r ⌝ }
+{
+    let at = 128 * next_marked(marks, from / 128);
+    if at < from { from } else { at }
 }
 
 // Where the next record from `from` on begins that is worth a look, or the end of the file: records of blocks that are not marked are passed over.
@@ -161,47 +281,38 @@ pub fn seek(
     roles: &[u64; 256],
     news: u64,
     marks: &[u64; 8],
-    starts: &[usize; 256],
+    starts_low: &[u64; 256],
+    starts_high: &[u64; 256],
+    loads_low: &[u64; 256],
+    loads_high: &[u64; 256],
     from: usize,
 ) -> usize
-    requires { ⌜ (2432 ≤ length (now t)) × Walk (now file) from × (length (now file) ≤ 32768) × ((b : ℕ) → b < 256 → Walk (now file) (getD (now starts) b 0)) ⌝ }
+    requires { ⌜ (2432 ≤ length (now t)) × (from ≤ length (now file)) × (length (now file) ≤ 32768) × Begins (now file) (now «starts_low») (now «starts_high») × Begins (now file) (now «loads_low») (now «loads_high») ⌝ }
     ensures { λ r. ⌜ (from ≤ r) × (r < length (now (file .entry)) → Walk (now (file .entry)) r) ⌝ }
 {
-    let lengths = layout::lengths();
-    let mut at = from;
+    let mut at = onward(marks, from);
     while at < file.len() {
-        let kind = wide(file[at]);
-        let n = wide(lengths[kind]);
-        let b = at / 64;
-        let mut next = at + 1 + n;
-        if words::has(marks[b / 64], b % 64) == 1 {
-            if file.len() < at + 12 {
-                return at;
-            }
-            if wakes(
-                t,
-                flags,
-                lower_meets,
-                upper_meets,
-                needs,
-                roles,
-                news,
-                kind,
-                &file[at + 1..at + 12],
-            ) {
-                return at;
-            }
-        } else {
-            let c = next_marked(marks, b + 1);
-            if 512 <= c {
-                return file.len();
-            }
-            let s = starts[c / 2];
-            if next < s {
-                next = s;
-            }
+        let b = at / 128;
+        let all = words::has(marks[b / 64], b % 64) == 1;
+        let w = at / 64;
+        let word = places(all, starts_low, starts_high, loads_low, loads_high, w);
+        let found = among(
+            t,
+            flags,
+            lower_meets,
+            upper_meets,
+            file,
+            needs,
+            roles,
+            news,
+            all,
+            words::above(word, at % 64),
+            at,
+        );
+        if found < file.len() {
+            return found;
         }
-        at = next;
+        at = onward(marks, 64 * w + 64);
     }
-    at
+    file.len()
 }

@@ -160,29 +160,42 @@ fn reading(reads: &[u64; 256], sums: &[u64; 13], k: usize) -> u64
 }
 
 // The blocks in which a record looks under one of the names.
-fn naming(named: &[u64; 256], names: u64, part: usize) -> u64
-    requires { ⌜ part < 8 ⌝ }
+fn naming(named: &[u64; 128], names: u64, part: usize) -> u64
+    requires { ⌜ part < 4 ⌝ }
 {
     let mut all: u64 = 0;
     let mut rest = names;
     let mut n = words::first(rest);
     while n < 64 {
-        all = words::join(all, named[8 * (n % 32) + part]);
+        all = words::join(all, named[4 * (n % 32) + part]);
         rest = words::rest(rest);
         n = words::first(rest);
     }
     all
 }
 
-// The blocks worth a look, of the 64 that `reads` is about.
-pub fn mark(reads: &[u64; 256], named: &[u64; 256], sums: &[u64; 13], part: usize) -> u64
-    requires { ⌜ (part < 8) × (length (now reads) ≡ 256) ⌝ }
+// The blocks in which a load may look at a property that grew.
+fn looking(reads: &[u64; 256], named: &[u64; 128], sums: &[u64; 13], part: usize) -> u64
+    requires { ⌜ (part < 4) × (length (now reads) ≡ 256) ⌝ }
 {
-    let alone = reading(reads, sums, 0);
     let names = sums[8];
     if names == 0 {
-        return alone;
+        return 0;
     }
-    let objects = words::meet(reading(reads, sums, 4), naming(named, names, part));
-    words::join(alone, words::join(objects, naming(named, sums[9], part)))
+    words::meet(reading(reads, sums, 4), naming(named, names, part))
+}
+
+// The blocks worth a look, of the 64 that `reads` is about: those of which all records are, and those of which the loads are.
+pub fn mark(
+    reads: &[u64; 256],
+    named: &[u64; 128],
+    sums: &[u64; 13],
+    part: usize,
+    marks: &mut [u64; 8],
+)
+    requires { ⌜ (part < 4) × (length (now reads) ≡ 256) × (length (now marks) ≡ 8) ⌝ }
+    ensures { λ _. ⌜ length (now (marks .exit)) ≡ 8 ⌝ }
+{
+    marks[part] = words::join(reading(reads, sums, 0), naming(named, sums[9], part));
+    marks[4 + part] = looking(reads, named, sums, part);
 }

@@ -24,7 +24,7 @@ use Rattle.verdicts.specs.Verdict.{verdictOutcome, verdictTable, judged, forbid
 use Rattle.verdicts.specs.Check.{cleaned, checked, checkOutcome}
 use Rattle.verdicts.proofs.Accept.{admitted-readable}
 use Rattle.verdicts.proofs.Demand.{verdict-judged, table-left}
-use Rattle.statements.specs.Desk.{guestOf}
+use Rattle.views.specs.Arrays.{guestOf}
 use Rattle.pezvoran.specs.Judgment.{judgment}
 
 -- a position is at most the longest file

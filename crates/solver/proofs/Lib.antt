@@ -1,7 +1,4 @@
--- The passes of the solver. Assumes nothing.
-pub mod Walk
+-- The laws of the solver. Assumes nothing.
 pub mod Same
-pub mod Behinds
-pub mod Turns
 pub mod Settling
 pub mod Functions

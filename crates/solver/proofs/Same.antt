@@ -28,8 +28,8 @@ use Rattle.analysis.proofs.Fit.{rules-fit}
 use Rattle.analysis.proofs.Proper.{readable-proper}
 use Rattle.analysis.proofs.Returned.{readable-returned, returns-below}
 use Rattle.tables.specs.Sets.{Listed}
-use Rattle.statements.specs.Desk.{desk, deskOf, passRules, theGuest}
-use Rattle.statements.specs.View.{Named, Laid}
+use Rattle.views.specs.Arrays.{programBy, sheetProgram, passRules, theGuest}
+use Rattle.views.specs.View.{Named, Laid}
 
 -- ---- the rules in the order of a pass
 
@@ -72,7 +72,7 @@ module _ (file : List ℕ) where
 -- ---- the arrays
 
 module _ (file types flags formals masks returned : List ℕ) (ok : Readable 64 file)
-    (e : desk types flags formals masks returned ≡ deskOf (readFile 64 file .sheet)) where
+    (e : programBy types flags formals masks returned ≡ sheetProgram (readFile 64 file .sheet)) where
   abbrev sheet : Sheet
   sheet = readFile 64 file .sheet
 
@@ -101,7 +101,7 @@ module _ (file types flags formals masks returned : List ℕ) (ok : Readable 64 
 
   pub laid : (functions : ℕ) (classes : List ℕ) → ((f : ℕ) → On functions f → (f < 64) × (getD types f 0 ≡ 2))
       → ((f : ℕ) → f < 64 → getD types f 0 ≡ 2 → On functions f)
-      → ((c : ℕ) → c < 8 → Listed (chosen (inClass (desk [] [] [] masks [] .sheet) c) 32) (getD classes c 0))
+      → ((c : ℕ) → c < 8 → Listed (chosen (inClass (programBy [] [] [] masks [] .sheet) c) 32) (getD classes c 0))
       → Laid (programOf (readFile 64 file)) functions flags formals classes returned
   unfolding programOf
   laid functions classes is on names =
@@ -110,16 +110,12 @@ module _ (file types flags formals masks returned : List ℕ) (ok : Readable 64 
         function = λ f o. eq-eqb (typeOf sheet f) 2 (subst (λ (ts : List ℕ). getD ts f 0 ≡ 2) (sym types-are) (is f o .1));
         flags-are = flags-are;
         formals-are = formals-are;
-        names = λ c h. subst (λ (ms : List ℕ). Listed (chosen (inClass (desk [] [] [] ms [] .sheet) c) 32) (getD classes c 0)) (sym masks-are) (names c h);
+        names = λ c h. subst (λ (ms : List ℕ). Listed (chosen (inClass (programBy [] [] [] ms [] .sheet) c) 32) (getD classes c 0)) (sym masks-are) (names c h);
         handing = λ f x h i.
             let b = returns-below 64 (programOf (readFile 64 file)) (readable-proper 64 file (omega arith) ok) f x i in
             (b, subst (λ (ws : List ℕ). On (getD ws (4 * f + x / 64) 0) (x % 64)) returned-are (readable-returned 64 file (omega arith) ok f x h b .0 i));
         handed = λ f x h b. readable-returned 64 file (omega arith) ok f x h (b .0) .1 (subst (λ (ws : List ℕ). On (getD ws (4 * f + x / 64) 0) (x % 64)) (sym returned-are) (b .1));
       }
-
--- the names of the classes are names
-pub classes-below : (p : Program) (classes : List ℕ) → Named p classes → (c n : ℕ) → c < 8 → On (getD classes c 0) n → n < 32
-classes-below p classes named c n h o = chosen-passes (inClass (p .sheet) c) 32 n (named c h .source n o) .0
 
 -- words beyond the rows
 drop-small : (n : ℕ) (t : Table) → Small 64 t → Small 64 (drop n t)

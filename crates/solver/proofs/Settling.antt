@@ -21,8 +21,8 @@ use Rattle.rules.proofs.Resumes.{resumes-closed}
 use Rattle.lookups.specs.Kept.{Same, OnChains, Method, HandedBack, Joined, Exact, Exacts, Delta, Returned, Fulls, Sizes}
 use Rattle.lookups.proofs.Fulls.{fulls-none}
 use Rattle.lookups.proofs.Totals.{total-empty}
-use Rattle.statements.specs.View.{View}
-use Rattle.solver.specs.Behind.{Behind}
+use Rattle.views.specs.View.{View}
+use Rattle.passes.specs.Behind.{Behind}
 
 pub record Settling (rule : Rule) (returned classes : List ℕ) (first t : Table) (again : Bool) (low high totals last chains methods lower upper handed lowerMeets upperMeets allLast allFresh allAdded : List ℕ) (allStale : ℕ) : Type 0 where
   pub base : Table

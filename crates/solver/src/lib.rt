@@ -11,9 +11,6 @@ use crate::settle::settle;
 use crate::table::clear;
 use sheet::Sheet;
 
-mod pass;
-mod quick;
-mod renew;
 mod settle;
 pub mod table;
 

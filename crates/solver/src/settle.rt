@@ -7,13 +7,13 @@ ghost use Rattle.rules.specs.Round.{leastAbove};
 ghost use Rattle.format.specs.Reading.{readFile, Readable};
 ghost use Rattle.program.specs.Program.{programOf};
 ghost use Rattle.analysis.specs.Rules.{rules};
-ghost use Rattle.statements.specs.Desk.{desk, deskOf};
-use crate::pass::pass;
-use crate::quick::hurry;
-use crate::renew::renew;
+ghost use Rattle.views.specs.Arrays.{programBy, sheetProgram};
 use lookups::look::stirred_labels;
 use lookups::note::note;
-use statements::names::name_classes;
+use passes::hurry::hurry;
+use passes::pass::pass;
+use passes::renew::renew;
+use views::names::name_classes;
 
 // The labels of functions.
 fn function_labels(types: &[u8; 64]) -> u64
@@ -46,7 +46,7 @@ pub fn settle<'a>(
     masks: &'a [u8; 32],
     returned: &'a [u64; 256],
 )
-    requires { ⌜ (2432 ≤ length (now t)) × Readable 64 (now file) × (desk (now types) (now flags) (now formals) (now masks) (now returned) ≡ deskOf (readFile 64 (now file) .sheet)) × ((r : ℕ) → r < 2432 → getD (now t) r 0 ≡ 0) ⌝ }
+    requires { ⌜ (2432 ≤ length (now t)) × Readable 64 (now file) × (programBy (now types) (now flags) (now formals) (now masks) (now returned) ≡ sheetProgram (readFile 64 (now file) .sheet)) × ((r : ℕ) → r < 2432 → getD (now t) r 0 ≡ 0) ⌝ }
     ensures { λ _. ⌜ now (t .exit) ≡ leastAbove 64 (rules 64 (programOf (readFile 64 (now (file .entry))))) (now (t .entry)) ⌝ }
 {
     let functions = function_labels(types);

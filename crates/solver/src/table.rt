@@ -5,7 +5,7 @@ ghost use Prim.Native.Nat.{_≤_};
 ghost use lib.ListN.{length, drop};
 ghost use Rattle.rules.specs.Table.{emptyTable, facts};
 ghost use Rattle.analysis.specs.Verdict.{heldForbidden};
-ghost use Rattle.statements.specs.Desk.{guestOf};
+ghost use Rattle.views.specs.Arrays.{guestOf};
 
 // No facts at all; the words beyond the rows stay.
 pub fn clear(t: &mut [u64])

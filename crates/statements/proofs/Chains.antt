@@ -25,14 +25,7 @@ use Rattle.format.specs.Sheet.{Sheet, declared}
 use Rattle.analysis.specs.Rules.{parentsOf, chainRule, guestChains}
 use Rattle.tables.specs.Sets.{Gathered, Listed}
 use Rattle.lookups.specs.Kept.{Noted, Same}
-use Rattle.statements.specs.Desk.{chainBy, theGuest}
-
--- a label from 3 up for a type has prototype 4
-pub parents-other : (k : ℕ) → 0 < k → (k ≡ 1 → ⊥) → (k ≡ 2 → ⊥) → parentsOf k ≡ 4 ∷ []
-parents-other zero h a b = absurd (omega arith)
-parents-other (suc zero) h a b = absurd (a refl)
-parents-other (suc (suc zero)) h a b = absurd (b refl)
-parents-other (suc (suc (suc k))) h a b = refl
+use Rattle.views.specs.Arrays.{chainBy, theGuest}
 
 -- one label of a list
 pub give-parent : {t u : Table} {grew : Bool} (k l m : ℕ) → parentsOf k ≡ m ∷ [] → Sweeps 64 (give (variable (2304 + l)) m) t u grew

@@ -1,9 +1,3 @@
--- Laws of the rules' pieces. Assumes nothing.
-pub mod Words
-pub mod Passing
-pub mod Finds
-pub mod Returns
+-- Laws of the P line and of records. Assumes nothing.
 pub mod Chains
 pub mod Records
-pub mod Ranges
-pub mod Calls

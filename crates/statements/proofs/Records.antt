@@ -17,7 +17,7 @@ use borrow.Author.Tests.{ne-eqb}
 use Rattle.format.specs.Records.{field}
 use Rattle.program.specs.Statement.{named, statementsOf}
 use Rattle.program.specs.Program.{Program}
-use Rattle.statements.specs.Desk.{recordRule}
+use Rattle.views.specs.Arrays.{recordRule}
 use Rattle.analysis.specs.Rules.{ruleOf, loading, storing, calling, making, converting}
 
 pub one-rule : {p : Rule} {t u : Table} {grew : Bool} → Sweeps 64 p t u grew → Sweeps 64 (both p none) t u grew

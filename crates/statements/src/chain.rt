@@ -11,7 +11,7 @@ ghost use Rattle.rules.specs.Sweep.{Sweeps, Resumes};
 ghost use Rattle.program.specs.Program.{Program};
 ghost use Rattle.analysis.specs.Rules.{parentsOf, guestChains};
 ghost use Rattle.lookups.specs.Kept.{Same};
-ghost use Rattle.statements.specs.Desk.{chainBy, chainRules, theGuest};
+ghost use Rattle.views.specs.Arrays.{chainBy, chainRules, theGuest};
 use tables::gather::gather;
 use tables::store::give_row;
 use tables::store::join_row;

@@ -7,12 +7,12 @@ ghost use Rattle.rules.specs.Table.{Table, Within};
 ghost use Rattle.rules.specs.Sweep.{Resumes};
 ghost use Rattle.program.specs.Program.{Program};
 ghost use Rattle.lookups.specs.Kept.{Stirred, Part, Full};
-ghost use Rattle.statements.specs.Desk.{guestRules};
-ghost use Rattle.statements.specs.View.{Laid, View};
-use crate::function::call;
-use crate::function::make_new;
-use crate::rule::load_class;
-use crate::rule::store_class;
+ghost use Rattle.views.specs.Arrays.{guestRules};
+ghost use Rattle.views.specs.View.{Laid, View};
+use calls::call::call;
+use calls::call::make_new;
+use properties::load::load_class;
+use properties::store::store_class;
 use tables::store::give_row;
 use tables::store::include_row;
 

@@ -7,28 +7,28 @@ ghost use Rattle.rules.specs.Table.{Table, Within};
 ghost use Rattle.rules.specs.Sweep.{Sweeps, Resumes};
 ghost use Rattle.program.specs.Program.{Program};
 ghost use Rattle.lookups.specs.Kept.{Same, Stirred, OnChains, Method, Joined, Part, Deltas, Exacts, Returned, Fulls};
-ghost use Rattle.statements.specs.Desk.{desk, recordRule};
-ghost use Rattle.statements.specs.Range.{InRange};
-ghost use Rattle.statements.specs.View.{Named, Laid, View};
-use crate::function::call;
-use crate::function::convert;
-use crate::function::make_new;
-use crate::names::names_by;
-use crate::rule::load;
-use crate::rule::load_class;
-use crate::rule::store;
-use crate::rule::store_class;
+ghost use Rattle.views.specs.Arrays.{programBy, recordRule};
+ghost use Rattle.views.specs.Range.{InRange};
+ghost use Rattle.views.specs.View.{Named, Laid, View};
+use calls::call::call;
+use calls::call::make_new;
+use calls::convert::convert;
+use properties::load::load;
+use properties::load::load_class;
+use properties::store::store;
+use properties::store::store_class;
 use rows::Label;
 use rows::Name;
 use rows::Var;
 use tables::store::give_row;
 use tables::store::include_row;
 use tables::wide;
+use views::names::names_by;
 
 // 5: variable v, owner scope, name: S(v) = H(0,n), where it has a name.
 fn variable_record(t: &mut [u64], body: &[u8]) -> bool
     requires { ⌜ (2432 ≤ length (now t)) × InRange 5 (now body) ⌝ }
-    ensures { λ r. ⌜ Sweeps 64 (recordRule (desk [] [] [] [] []) 5 (now (body .entry))) (now (t .entry)) (now (t .exit)) r ⌝ }
+    ensures { λ r. ⌜ Sweeps 64 (recordRule (programBy [] [] [] [] []) 5 (now (body .entry))) (now (t .entry)) (now (t .exit)) r ⌝ }
 {
     let name = body[2];
     if name == 255 {
@@ -44,7 +44,7 @@ fn variable_record(t: &mut [u64], body: &[u8]) -> bool
 // 6: grant v, between v and the bag each way.
 fn grant_record(t: &mut [u64], body: &[u8]) -> bool
     requires { ⌜ (2432 ≤ length (now t)) × InRange 6 (now body) ⌝ }
-    ensures { λ r. ⌜ Sweeps 64 (recordRule (desk [] [] [] [] []) 6 (now (body .entry))) (now (t .entry)) (now (t .exit)) r ⌝ }
+    ensures { λ r. ⌜ Sweeps 64 (recordRule (programBy [] [] [] [] []) 6 (now (body .entry))) (now (t .entry)) (now (t .exit)) r ⌝ }
 {
     let v = Var(body[0]).row();
     let a = include_row(t, 1, v);
@@ -55,7 +55,7 @@ fn grant_record(t: &mut [u64], body: &[u8]) -> bool
 // 7: property l, n, l'.
 fn property_record(t: &mut [u64], body: &[u8]) -> bool
     requires { ⌜ (2432 ≤ length (now t)) × InRange 7 (now body) ⌝ }
-    ensures { λ r. ⌜ Sweeps 64 (recordRule (desk [] [] [] [] []) 7 (now (body .entry))) (now (t .entry)) (now (t .exit)) r ⌝ }
+    ensures { λ r. ⌜ Sweeps 64 (recordRule (programBy [] [] [] [] []) 7 (now (body .entry))) (now (t .entry)) (now (t .exit)) r ⌝ }
 {
     let h = Label(body[0]).property_row(Name(body[1]));
     give_row(t, h, wide(body[2]))
@@ -64,7 +64,7 @@ fn property_record(t: &mut [u64], body: &[u8]) -> bool
 // 8: held v, l.
 fn held_record(t: &mut [u64], body: &[u8]) -> bool
     requires { ⌜ (2432 ≤ length (now t)) × InRange 8 (now body) ⌝ }
-    ensures { λ r. ⌜ Sweeps 64 (recordRule (desk [] [] [] [] []) 8 (now (body .entry))) (now (t .entry)) (now (t .exit)) r ⌝ }
+    ensures { λ r. ⌜ Sweeps 64 (recordRule (programBy [] [] [] [] []) 8 (now (body .entry))) (now (t .entry)) (now (t .exit)) r ⌝ }
 {
     let v = Var(body[0]).row();
     give_row(t, v, wide(body[1]))
@@ -73,7 +73,7 @@ fn held_record(t: &mut [u64], body: &[u8]) -> bool
 // 16: copy k, y, source.
 fn copy_record(t: &mut [u64], body: &[u8]) -> bool
     requires { ⌜ (2432 ≤ length (now t)) × InRange 16 (now body) ⌝ }
-    ensures { λ r. ⌜ Sweeps 64 (recordRule (desk [] [] [] [] []) 16 (now (body .entry))) (now (t .entry)) (now (t .exit)) r ⌝ }
+    ensures { λ r. ⌜ Sweeps 64 (recordRule (programBy [] [] [] [] []) 16 (now (body .entry))) (now (t .entry)) (now (t .exit)) r ⌝ }
 {
     let y = Var(body[1]).row();
     let x = Var(body[2]).row();
@@ -143,7 +143,7 @@ fn store_record(
 // 19: make k, y, l.
 fn make_record(t: &mut [u64], body: &[u8]) -> bool
     requires { ⌜ (2432 ≤ length (now t)) × InRange 19 (now body) ⌝ }
-    ensures { λ r. ⌜ Sweeps 64 (recordRule (desk [] [] [] [] []) 19 (now (body .entry))) (now (t .entry)) (now (t .exit)) r ⌝ }
+    ensures { λ r. ⌜ Sweeps 64 (recordRule (programBy [] [] [] [] []) 19 (now (body .entry))) (now (t .entry)) (now (t .exit)) r ⌝ }
 {
     let y = Var(body[1]).row();
     give_row(t, y, wide(body[2]))
@@ -152,7 +152,7 @@ fn make_record(t: &mut [u64], body: &[u8]) -> bool
 // 20: make function k, y, l, q.
 fn function_record(t: &mut [u64], body: &[u8]) -> bool
     requires { ⌜ (2432 ≤ length (now t)) × InRange 20 (now body) ⌝ }
-    ensures { λ r. ⌜ Sweeps 64 (recordRule (desk [] [] [] [] []) 20 (now (body .entry))) (now (t .entry)) (now (t .exit)) r ⌝ }
+    ensures { λ r. ⌜ Sweeps 64 (recordRule (programBy [] [] [] [] []) 20 (now (body .entry))) (now (t .entry)) (now (t .exit)) r ⌝ }
 {
     let y = Var(body[1]).row();
     let h = Label(body[2]).property_row(Name(3));
@@ -241,7 +241,7 @@ fn new_record(
 // 24: throw k, value.
 fn throw_record(t: &mut [u64], body: &[u8]) -> bool
     requires { ⌜ (2432 ≤ length (now t)) × InRange 24 (now body) ⌝ }
-    ensures { λ r. ⌜ Sweeps 64 (recordRule (desk [] [] [] [] []) 24 (now (body .entry))) (now (t .entry)) (now (t .exit)) r ⌝ }
+    ensures { λ r. ⌜ Sweeps 64 (recordRule (programBy [] [] [] [] []) 24 (now (body .entry))) (now (t .entry)) (now (t .exit)) r ⌝ }
 {
     let k = Label(body[0]).thrown_row();
     let x = Var(body[1]).row();
@@ -251,7 +251,7 @@ fn throw_record(t: &mut [u64], body: &[u8]) -> bool
 // 25: catch k, y.
 fn catch_record(t: &mut [u64], body: &[u8]) -> bool
     requires { ⌜ (2432 ≤ length (now t)) × InRange 25 (now body) ⌝ }
-    ensures { λ r. ⌜ Sweeps 64 (recordRule (desk [] [] [] [] []) 25 (now (body .entry))) (now (t .entry)) (now (t .exit)) r ⌝ }
+    ensures { λ r. ⌜ Sweeps 64 (recordRule (programBy [] [] [] [] []) 25 (now (body .entry))) (now (t .entry)) (now (t .exit)) r ⌝ }
 {
     let k = Label(body[0]).thrown_row();
     let y = Var(body[1]).row();

@@ -6,7 +6,7 @@ use Rattle.format.specs.Sheet.{Sheet}
 use Rattle.format.specs.Reading.{readFile}
 use Rattle.analysis.specs.Verdict.{heldForbidden}
 use Rattle.answer.specs.Outcome.{refused}
-use Rattle.statements.specs.Desk.{guestOf}
+use Rattle.views.specs.Arrays.{guestOf}
 use Rattle.pezvoran.proofs.Laws.{check-short, check-refused, check-gap, check-clear, check-held, position-small}
 use borrow.Author.Needs.{needs}
 use Rattle.pezvoran.proofs.examine.Statement.{statement}

@@ -7,7 +7,7 @@ use Rattle.format.specs.Sheet.{Sheet}
 use Rattle.format.specs.Reading.{readFile}
 use Rattle.analysis.specs.Verdict.{heldForbidden}
 use Rattle.answer.specs.Outcome.{refused}
-use Rattle.statements.specs.Desk.{guestOf}
+use Rattle.views.specs.Arrays.{guestOf}
 use Rattle.pezvoran.specs.Judgment.{judgment}
 use Rattle.pezvoran.proofs.Laws.{short-outcome, short-table, refused-outcome, refused-table, judged-outcome, left, position-small}
 use borrow.Author.Needs.{needs}

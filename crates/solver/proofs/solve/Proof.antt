@@ -6,7 +6,7 @@ use native.Mathlib.Omega.{arith}
 use borrow.Author.Needs.{needs}
 use lib.ListN.{length, drop, length-append, length-replicate}
 use Rattle.rules.specs.Table.{emptyTable}
-use Rattle.statements.specs.Desk.{deskOf}
+use Rattle.views.specs.Arrays.{sheetProgram}
 use Rattle.solver.proofs.Same.{cleared-rows, cleared-least}
 use Rattle.solver.proofs.solve.Statement.{statement}
 use Rattle.solver.proofs.solve.Tie as tie
@@ -20,7 +20,7 @@ settle-requires c κs =
     let start = clear .before .before .before .before in
     let t = start .args .table .now in
     let e : length (clear .clear .last .0) ≡ length (emptyTable 64 ++ drop 2432 t) = ap length (clear .clear .ensures) in
-    (omega (arith, e, length-append (emptyTable 64) (drop 2432 t), length-replicate {A = ℕ} 2432 0), start .pre .1, ap deskOf (start .pre .2), λ r h. cleared-rows t (clear .clear .last .0) r h (clear .clear .ensures))
+    (omega (arith, e, length-append (emptyTable 64) (drop 2432 t), length-replicate {A = ℕ} 2432 0), start .pre .1, ap sheetProgram (start .pre .2), λ r h. cleared-rows t (clear .clear .last .0) r h (clear .clear .ensures))
 
 same-length : tie.Need-same-length
 same-length c = search needs

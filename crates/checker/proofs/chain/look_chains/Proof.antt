@@ -9,7 +9,7 @@ use Rattle.rules.specs.Gap.{Finds}
 use Rattle.rules.proofs.Find.{finds-chosen-start}
 use Rattle.format.specs.Sheet.{declared}
 use Rattle.analysis.specs.Rules.{chainRule}
-use Rattle.statements.specs.Desk.{desk}
+use Rattle.views.specs.Arrays.{programBy}
 use Rattle.checker.specs.Seen.{seen}
 use Rattle.checker.proofs.Parts.{chosen-next}
 use Rattle.checker.proofs.chain.look_chains.Statement.{statement}
@@ -18,7 +18,7 @@ use Rattle.checker.proofs.chain.look_chains.Tie as tie
 abbrev Inv-loop : tie.InvT-loop
 Inv-loop t d types low best₀ l₀ best l =
     (l ≤ 64)
-    × Finds 64 (seen d t) (over (chosen (declared (desk types [] [] [] [] .sheet)) l) (chainRule (desk types [] [] [] [] .sheet))) low best
+    × Finds 64 (seen d t) (over (chosen (declared (programBy types [] [] [] [] .sheet)) l) (chainRule (programBy types [] [] [] [] .sheet))) low best
 
 abbrev μ-loop : tie.MeasureT-loop
 μ-loop t d types low best₀ l₀ best l = 64 - l
@@ -40,7 +40,7 @@ loop-less c = search needs
 
 loop-again : tie.Need-loop-again Inv-loop μ-loop
 loop-again c =
-    let s = desk (c .before .before .before .before .before .args .types .now) [] [] [] [] .sheet in
+    let s = programBy (c .before .before .before .before .before .args .types .now) [] [] [] [] .sheet in
     (search needs, chosen-next (declared s) (chainRule s) (c .before .before .before .loop .l) (c .before .before .before .loop .inv .1) (c .look-declared .ensures))
 
 returns : tie.Need-returns Inv-loop μ-loop

@@ -2,7 +2,7 @@
 use borrow.Author.Needs.{needs}
 use mathlib.Core.Path.{ap}
 use Rattle.analysis.specs.Rules.{parentsOf}
-use Rattle.statements.proofs.Chains.{parents-other}
+use Rattle.views.proofs.Parents.{parents-other}
 use Rattle.checker.proofs.chain.parent_of.Statement.{statement}
 use Rattle.checker.proofs.chain.parent_of.Tie as tie
 

@@ -13,7 +13,7 @@ use Rattle.rules.specs.Gap.{grows, lower, Finds}
 use Rattle.rules.proofs.Find.{finds-equal}
 use Rattle.program.specs.Program.{statements, guestsStatements, thisOf, formalsOf, returnsOf}
 use Rattle.analysis.specs.Rules.{passing}
-use Rattle.statements.specs.Desk.{desk}
+use Rattle.views.specs.Arrays.{programBy}
 use Rattle.checker.specs.Seen.{seen}
 use Rattle.checker.proofs.Seen.{seen-small}
 use Rattle.checker.proofs.Loops.{each-first, each-next}
@@ -24,8 +24,8 @@ use Rattle.checker.proofs.function.call.Tie as tie
 abbrev Inv-loop : tie.InvT-loop
 Inv-loop t d types formals returned callees handed k y callee this args low fs best₀ rest₀ f₀ best rest f =
     Ahead fs f rest
-    × Finds 64 (seen d t) (over (labels f fs) (λ g. include (variable (thisOf (desk [] [] formals [] [] .sheet) g)) (variable this)
-    also passing (desk [] [] formals [] []) (formalsOf (desk [] [] formals [] [] .sheet) g) args)) low best
+    × Finds 64 (seen d t) (over (labels f fs) (λ g. include (variable (thisOf (programBy [] [] formals [] [] .sheet) g)) (variable this)
+    also passing (programBy [] [] formals [] []) (formalsOf (programBy [] [] formals [] [] .sheet) g) args)) low best
 
 abbrev μ-loop : tie.MeasureT-loop
 μ-loop t d types formals returned callees handed k y callee this args low fs best₀ rest₀ f₀ best rest f = 64 - f
@@ -88,7 +88,7 @@ returns c =
     let r = c .before .before .before .before .before .before .loop in
     let e : r .f ≡ 64 = omega (arith, c .before .before .before .before .before .loop-test .left, r .inv .0 .high) in
     finds-equal (c .look-word2 .ensures ∙ ap (λ (z : ℕ). lower (grows (2368 + a .k) (out .result) t) (2368 + a .k) z) (c .before .look-word .ensures))
-    (call-finds (desk (a .types .now) [] (a .formals .now) [] (a .returned .now)) t (a .k) (a .y) (a .callee) (a .this) (a .args .now) fs (back .result)
+    (call-finds (programBy (a .types .now) [] (a .formals .now) [] (a .returned .now)) t (a .k) (a .y) (a .callee) (a .this) (a .args .now) fs (back .result)
     (out .result) (seen-small (a .d) (a .t .now) (b .fits .d .fits)) (b .pre .8 (a .callee) (b .pre .3)) (a .handed .now) (a .low) (r .best)
     (search needs) (search needs) (b .pre .7) (back .ensures) (out .ensures) (rw e at (r .inv .1)))
 

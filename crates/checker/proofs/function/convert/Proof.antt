@@ -4,7 +4,7 @@ use mathlib.Core.List.{[]}
 use native.Mathlib.Omega.{arith}
 use lib.ListN.{getD}
 use Rattle.rules.proofs.Find.{finds-equal}
-use Rattle.statements.specs.Desk.{desk}
+use Rattle.views.specs.Arrays.{programBy}
 use Rattle.checker.specs.Seen.{seen}
 use Rattle.checker.proofs.Seen.{seen-small}
 use Rattle.checker.proofs.Returns.{prim-finds}
@@ -41,7 +41,7 @@ returns c =
     let gap = b .pre .4 (a .x) (b .pre .2) in
     let out = b .pre .3 (a .x) (b .pre .2) in
     finds-equal (c .look-word .ensures)
-    (prim-finds (desk (a .types .now) [] (a .formals .now) [] []) (seen (a .d) (a .t .now)) (a .k) (a .x) (a .low) (getD (a .gaps .now) (a .x) 0) (best .result)
+    (prim-finds (programBy (a .types .now) [] (a .formals .now) [] []) (seen (a .d) (a .t .now)) (a .k) (a .x) (a .low) (getD (a .gaps .now) (a .x) 0) (best .result)
     18446744073709551615 (gap .0) (out .1 .0) (getD (a .hurled .now) (a .x) 0) (seen-small (a .d) (a .t .now) (b .fits .d .fits)) (omega (arith, b .fits .low .fits))
     (out .0) (best .ensures) (gap .1) (gap .2) (out .1 .1) (out .1 .2))
 

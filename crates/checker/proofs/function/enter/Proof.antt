@@ -5,7 +5,7 @@ use mathlib.Core.List.{[]}
 use Rattle.rows.specs.Row.{variable}
 use Rattle.rules.proofs.Find.{finds-both, finds-rows}
 use Rattle.program.specs.Program.{thisOf}
-use Rattle.statements.specs.Desk.{desk}
+use Rattle.views.specs.Arrays.{programBy}
 use borrow.Author.Needs.{needs}
 use Rattle.checker.proofs.function.enter.Statement.{statement}
 use Rattle.checker.proofs.function.enter.Tie as tie
@@ -30,7 +30,7 @@ returns c =
     let a = c .before .before .before .before .before .before .args in
     let this = c .before .before .wide in
     finds-both
-    (finds-rows (variable (this .result)) (variable (a .this)) (variable (thisOf (desk [] [] (a .formals .now) [] [] .sheet) (a .f))) (variable (a .this))
+    (finds-rows (variable (this .result)) (variable (a .this)) (variable (thisOf (programBy [] [] (a .formals .now) [] [] .sheet) (a .f))) (variable (a .this))
     (this .ensures .0) refl (c .before .look-include .ensures))
     (c .pass-arguments .ensures)
 

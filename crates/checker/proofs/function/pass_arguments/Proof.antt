@@ -10,8 +10,8 @@ use Rattle.rules.specs.Gap.{Finds}
 use Rattle.rules.proofs.Find.{finds-rows}
 use Rattle.program.specs.Program.{formalsOf}
 use Rattle.analysis.specs.Rules.{passing}
-use Rattle.statements.specs.Desk.{desk}
-use Rattle.statements.proofs.Passing.{formals-six, formal-at}
+use Rattle.views.specs.Arrays.{programBy}
+use Rattle.views.proofs.Passing.{formals-six, formal-at}
 use Rattle.checker.specs.Seen.{seen}
 use Rattle.checker.proofs.Passing.{passing-first, passing-next, passing-end}
 use Rattle.checker.proofs.function.pass_arguments.Statement.{statement}
@@ -20,7 +20,7 @@ use Rattle.checker.proofs.function.pass_arguments.Tie as tie
 abbrev Inv-loop : tie.InvT-loop
 Inv-loop t d formals args f low best₀ j₀ best j =
     (j ≤ 6)
-    × Finds 64 (seen d t) (passing (desk [] [] formals [] []) (take j (formalsOf (desk [] [] formals [] [] .sheet) f)) (take j args)) low best
+    × Finds 64 (seen d t) (passing (programBy [] [] formals [] []) (take j (formalsOf (programBy [] [] formals [] [] .sheet) f)) (take j args)) low best
 
 abbrev μ-loop : tie.MeasureT-loop
 μ-loop t d formals args f low best₀ j₀ best j = 6 - j
@@ -28,7 +28,7 @@ abbrev μ-loop : tie.MeasureT-loop
 loop-holds : tie.Need-loop-holds Inv-loop μ-loop
 loop-holds c =
     let a = c .before .before .args in
-    let p = desk [] [] (a .formals .now) [] [] in
+    let p = programBy [] [] (a .formals .now) [] [] in
     (search needs, passing-first p (formalsOf (p .sheet) (a .f)) (a .args .now))
 
 mul-wide : tie.Need-mul-wide Inv-loop μ-loop
@@ -65,7 +65,7 @@ loop-again : tie.Need-loop-again Inv-loop μ-loop
 loop-again c =
     let a = c .before .before .before .before .before .before .before .before .before .args in
     let r = c .before .before .before .before .before .before .loop in
-    let p = desk [] [] (a .formals .now) [] [] in
+    let p = programBy [] [] (a .formals .now) [] [] in
     let ys = formalsOf (p .sheet) (a .f) in
     let six : length ys ≡ 6 = formals-six (a .formals .now) (a .f) (c .before .before .before .before .before .before .before .before .before .pre .2) (c .before .before .before .before .before .before .before .before .before .pre .3) in
     let formal = c .before .before .before .wide in
@@ -81,7 +81,7 @@ returns : tie.Need-returns Inv-loop μ-loop
 returns c =
     let a = c .before .before .before .before .args in
     let r = c .before .loop in
-    let p = desk [] [] (a .formals .now) [] [] in
+    let p = programBy [] [] (a .formals .now) [] [] in
     let ys = formalsOf (p .sheet) (a .f) in
     let six : length ys ≡ 6 = formals-six (a .formals .now) (a .f) (c .before .before .before .before .pre .2) (c .before .before .before .before .pre .3) in
     passing-end p ys (a .args .now) (r .j) (omega arith) (omega arith) (r .inv .1)

@@ -6,7 +6,7 @@ use Prim.Native.Nat.{_-_, _≤_}
 use native.Mathlib.Omega.{arith}
 use lib.ListN.{length, length-set}
 use Rattle.program.specs.Program.{returnsOf}
-use Rattle.statements.specs.Desk.{desk}
+use Rattle.views.specs.Arrays.{programBy}
 use Rattle.checker.specs.Seen.{seen}
 use Rattle.checker.specs.Kept.{Each, Joined}
 use Rattle.checker.proofs.Keeps.{kept-none, kept-next}
@@ -14,7 +14,7 @@ use Rattle.checker.proofs.keep.keep_handed.Statement.{statement}
 use Rattle.checker.proofs.keep.keep_handed.Tie as tie
 
 abbrev Inv-loop : tie.InvT-loop
-Inv-loop t d returned handed₀ f₀ handed f = (f ≤ 64) × (length handed ≡ 64) × Each f (λ g w. Joined (seen d t) (returnsOf (desk [] [] [] [] returned) g) 0 w) handed
+Inv-loop t d returned handed₀ f₀ handed f = (f ≤ 64) × (length handed ≡ 64) × Each f (λ g w. Joined (seen d t) (returnsOf (programBy [] [] [] [] returned) g) 0 w) handed
 
 abbrev μ-loop : tie.MeasureT-loop
 μ-loop t d returned handed₀ f₀ handed f = 64 - f
@@ -22,7 +22,7 @@ abbrev μ-loop : tie.MeasureT-loop
 loop-holds : tie.Need-loop-holds Inv-loop μ-loop
 loop-holds c =
     let b = c .before in
-    (search needs, b .pre .1, kept-none (λ g w. Joined (seen (b .args .d) (b .args .t .now)) (returnsOf (desk [] [] [] [] (b .args .returned .now)) g) 0 w) (b .args .handed .now))
+    (search needs, b .pre .1, kept-none (λ g w. Joined (seen (b .args .d) (b .args .t .now)) (returnsOf (programBy [] [] [] [] (b .args .returned .now)) g) 0 w) (b .args .handed .now))
 
 handed-word-requires : tie.Need-handed-word-requires Inv-loop μ-loop
 handed-word-requires c κs = search needs
@@ -45,7 +45,7 @@ loop-again c =
     let a = c .before .before .before .before .args in (
       search needs,
       simp length-set (r .inv .1),
-      kept-next (λ g w. Joined (seen (a .d) (a .t .now)) (returnsOf (desk [] [] [] [] (a .returned .now)) g) 0 w) (r .handed) (r .f) (c .handed-word .result)
+      kept-next (λ g w. Joined (seen (a .d) (a .t .now)) (returnsOf (programBy [] [] [] [] (a .returned .now)) g) 0 w) (r .handed) (r .f) (c .handed-word .result)
           (omega (arith, r .inv .1, c .before .loop-test .taken)) (c .handed-word .ensures) (r .inv .2),
     )
 

@@ -7,14 +7,14 @@ use native.Mathlib.Omega.{arith}
 use lib.ListN.{length, length-set, set}
 use Rattle.program.specs.Program.{namesOf}
 use Rattle.tables.specs.Sets.{Listed}
-use Rattle.statements.specs.Desk.{desk}
+use Rattle.views.specs.Arrays.{programBy}
 use Rattle.checker.specs.Kept.{Each}
 use Rattle.checker.proofs.Keeps.{kept-none, kept-next}
 use Rattle.checker.proofs.keep.keep_names.Statement.{statement}
 use Rattle.checker.proofs.keep.keep_names.Tie as tie
 
 abbrev Good : List ℕ → ℕ → ℕ → Type 0
-Good masks k w = Listed (namesOf (desk [] [] [] masks [] .sheet) (128 + k)) w
+Good masks k w = Listed (namesOf (programBy [] [] [] masks [] .sheet) (128 + k)) w
 
 abbrev Inv-loop : tie.InvT-loop
 Inv-loop masks words₀ c₀ words c = (c ≤ 8) × (length words ≡ 8) × Each c (Good masks) words

@@ -3,14 +3,14 @@ use borrow.Author.Needs.{needs}
 use Prim.Native.Nat.{_+_, _-_, _≤_}
 use native.Mathlib.Omega.{arith}
 use lib.ListN.{length}
-use Rattle.statements.specs.Desk.{desk}
+use Rattle.views.specs.Arrays.{programBy}
 use Rattle.checker.specs.Seen.{seen}
 use Rattle.checker.proofs.Walk.{Walk, walk-first, walk-room, walk-range, walk-next, walk-end}
 use Rattle.checker.proofs.pass.look_records.Statement.{statement}
 use Rattle.checker.proofs.pass.look_records.Tie as tie
 
 abbrev Inv-loop : tie.InvT-loop
-Inv-loop file t d types flags formals masks returned words unions meets chains callees hurled gaps handed low best₀ at₀ best at = Walk (desk types flags formals masks returned) (seen d t) file at low best
+Inv-loop file t d types flags formals masks returned words unions meets chains callees hurled gaps handed low best₀ at₀ best at = Walk (programBy types flags formals masks returned) (seen d t) file at low best
 
 abbrev μ-loop : tie.MeasureT-loop
 μ-loop file t d types flags formals masks returned words unions meets chains callees hurled gaps handed low best₀ at₀ best at = length file - at

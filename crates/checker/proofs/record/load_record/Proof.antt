@@ -4,7 +4,7 @@ use mathlib.Core.Path.{refl}
 use lib.ListN.{getD}
 use Rattle.program.specs.Statement.{statementsOf}
 use mathlib.Core.List.{[]}
-use Rattle.statements.specs.Desk.{desk}
+use Rattle.views.specs.Arrays.{programBy}
 use Rattle.checker.proofs.Parts.{load-at}
 use Rattle.checker.proofs.record.load_record.Statement.{statement}
 use Rattle.checker.proofs.record.load_record.Tie as tie
@@ -38,7 +38,7 @@ unfolding statementsOf
 returns c =
     let a = c .before .before .before .before .before .before .before .before .before .before .args in
     let b = a .body .now in
-    load-at (desk [] [] [] (a .masks .now) []) (c .before .before .before .before .before .before .wide .result) (c .before .before .before .before .wide2 .result) (getD b 3 0) (c .before .before .wide3 .result)
+    load-at (programBy [] [] [] (a .masks .now) []) (c .before .before .before .before .before .before .wide .result) (c .before .before .before .before .wide2 .result) (getD b 3 0) (c .before .before .wide3 .result)
     (getD b 1 0) (getD b 2 0) (getD b 3 0) (getD b 4 0) (c .before .before .before .before .before .before .wide .ensures .0) (c .before .before .before .before .wide2 .ensures .0) refl (c .before .before .wide3 .ensures .0) (c .load .ensures)
 
 pub load-record-spec : {M : Type 1} → statement M

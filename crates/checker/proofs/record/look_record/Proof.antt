@@ -2,7 +2,7 @@
 use mathlib.Core.List.{[]}
 use Rattle.program.specs.Statement.{statementsOf}
 use Rattle.program.specs.Program.{namesOf, returnsOf, statements, guestsStatements}
-use Rattle.statements.specs.Desk.{desk}
+use Rattle.views.specs.Arrays.{programBy}
 use Rattle.checker.proofs.Parts.{variable-for, silent}
 use Rattle.checker.proofs.record.look_record.Statement.{statement}
 use Rattle.checker.proofs.record.look_record.Tie as tie
@@ -53,8 +53,8 @@ returns : tie.Need-returns
 unfolding statementsOf namesOf returnsOf statements guestsStatements
 returns c =
     let a = c .before .before .before .before .args in
-    let p = desk (a .types .now) (a .flags .now) (a .formals .now) (a .masks .now) (a .returned .now) in
-    rw (c .before .match .keys1) (variable-for (desk [] [] [] [] []) p (a .body .now) (c .variable-record .ensures))
+    let p = programBy (a .types .now) (a .flags .now) (a .formals .now) (a .masks .now) (a .returned .now) in
+    rw (c .before .match .keys1) (variable-for (programBy [] [] [] [] []) p (a .body .now) (c .variable-record .ensures))
 
 returns-2 : tie.Need-returns-2
 unfolding statementsOf namesOf returnsOf statements guestsStatements
@@ -112,7 +112,7 @@ returns-15 : tie.Need-returns-15
 returns-15 c =
     let a = c .before .before .before .args in
     let r = c .match .rest in
-    let p = desk (a .types .now) (a .flags .now) (a .formals .now) (a .masks .now) (a .returned .now) in
+    let p = programBy (a .types .now) (a .flags .now) (a .formals .now) (a .masks .now) (a .returned .now) in
     silent p (a .kind) (a .body .now) (r .0 .0 .0 .0 .0 .0 .0 .0 .0 .0 .0 .0 .0 .1) (r .0 .0 .0 .0 .0 .0 .0 .0 .0 .0 .0 .0 .1) (r .0 .0 .0 .0 .0 .0 .0 .0 .0 .0 .0 .1) (r .0 .0 .0 .0 .0 .0 .0 .0 .0 .0 .1) (r .0 .0 .0 .0 .0 .0 .0 .0 .0 .1) (r .0 .0 .0 .0 .0 .0 .0 .0 .1) (r .0 .0 .0 .0 .0 .0 .0 .1) (r .0 .0 .0 .0 .0 .0 .1) (r .0 .0 .0 .0 .0 .1) (r .0 .0 .0 .0 .1) (r .0 .0 .0 .1) (r .0 .0 .1) (r .0 .1) (r .1)
 
 pub look-record-spec : {M : Type 1} → statement M

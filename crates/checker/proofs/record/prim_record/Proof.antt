@@ -3,7 +3,7 @@ use borrow.Author.Needs.{needs}
 use lib.ListN.{getD}
 use Rattle.program.specs.Statement.{statementsOf}
 use mathlib.Core.List.{[]}
-use Rattle.statements.specs.Desk.{desk}
+use Rattle.views.specs.Arrays.{programBy}
 use Rattle.checker.proofs.Parts.{prim-at}
 use Rattle.checker.proofs.record.prim_record.Statement.{statement}
 use Rattle.checker.proofs.record.prim_record.Tie as tie
@@ -28,7 +28,7 @@ unfolding statementsOf
 returns c =
     let a = c .before .before .before .before .before .before .before .args in
     let b = a .body .now in
-    prim-at (desk (a .types .now) [] (a .formals .now) [] []) (c .before .before .before .wide .result) (c .before .wide2 .result) (getD b 0 0) (getD b 1 0)
+    prim-at (programBy (a .types .now) [] (a .formals .now) [] []) (c .before .before .before .wide .result) (c .before .wide2 .result) (getD b 0 0) (getD b 1 0)
     (c .before .before .before .wide .ensures .0) (c .before .wide2 .ensures .0) (c .convert .ensures)
 
 pub prim-record-spec : {M : Type 1} → statement M

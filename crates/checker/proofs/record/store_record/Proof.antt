@@ -4,7 +4,7 @@ use mathlib.Core.Path.{refl}
 use lib.ListN.{getD}
 use Rattle.program.specs.Statement.{statementsOf}
 use mathlib.Core.List.{[]}
-use Rattle.statements.specs.Desk.{desk}
+use Rattle.views.specs.Arrays.{programBy}
 use Rattle.checker.proofs.Parts.{store-at}
 use Rattle.checker.proofs.record.store_record.Statement.{statement}
 use Rattle.checker.proofs.record.store_record.Tie as tie
@@ -32,7 +32,7 @@ unfolding statementsOf
 returns c =
     let a = c .before .before .before .before .before .before .before .before .args in
     let b = a .body .now in
-    store-at (desk [] (a .flags .now) [] (a .masks .now) []) (c .before .before .before .before .wide .result) (getD b 2 0) (c .before .before .wide2 .result)
+    store-at (programBy [] (a .flags .now) [] (a .masks .now) []) (c .before .before .before .before .wide .result) (getD b 2 0) (c .before .before .wide2 .result)
     (getD b 1 0) (getD b 2 0) (getD b 3 0) (c .before .before .before .before .wide .ensures .0) refl (c .before .before .wide2 .ensures .0) (c .store .ensures)
 
 pub store-record-spec : {M : Type 1} → statement M

@@ -3,7 +3,7 @@ use borrow.Author.Needs.{needs}
 use mathlib.Core.List.{[]}
 use lib.ListN.{getD}
 use Rattle.rules.proofs.Find.{finds-both, finds-equal}
-use Rattle.statements.specs.Desk.{desk}
+use Rattle.views.specs.Arrays.{programBy}
 use Rattle.checker.specs.Seen.{seen}
 use Rattle.checker.proofs.Seen.{seen-small}
 use Rattle.checker.proofs.Finds.{load-finds}
@@ -43,7 +43,7 @@ returns c =
     let all = c .before .under-key in
     finds-both (best .ensures)
     (finds-equal (c .look-word .ensures)
-    (load-finds (desk [] [] [] (a .masks .now) []) (seen (a .d) (a .t .now)) (a .y) (a .x) (a .key) (a .w) (getD (a .chains .now) (a .x) 0) (all .result)
+    (load-finds (programBy [] [] [] (a .masks .now) []) (seen (a .d) (a .t .now)) (a .y) (a .x) (a .key) (a .w) (getD (a .chains .now) (a .x) 0) (all .result)
     (best .result) (seen-small (a .d) (a .t .now) (b .fits .d .fits)) (search needs) (b .pre .6 (a .x) (b .pre .2))
     (rw (c .before .before .join .ensures, c .before .before .before .row-at .ensures) at (all .ensures))))
 

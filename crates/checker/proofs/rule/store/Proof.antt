@@ -14,7 +14,7 @@ use Rattle.rules.specs.Round.{labels}
 use Rattle.rules.specs.Gap.{Finds}
 use Rattle.rules.proofs.Find.{finds-each-end}
 use Rattle.program.specs.Program.{namesOf}
-use Rattle.statements.specs.Desk.{desk}
+use Rattle.views.specs.Arrays.{programBy}
 use Rattle.checker.specs.Seen.{seen}
 use Rattle.checker.proofs.Seen.{seen-small}
 use Rattle.checker.proofs.Loops.{each-first, each-next}
@@ -75,7 +75,7 @@ returns c =
     let a = b .args in
     let names = c .before .before .before .before .names-at in
     let e : c .before .loop .l ≡ 64 = omega arith in
-    store-named (desk [] (a .flags .now) [] (a .masks .now) []) (a .x) (a .key) (a .a) (names .result)
+    store-named (programBy [] (a .flags .now) [] (a .masks .now) []) (a .x) (a .key) (a .a) (names .result)
     (rw (names .ensures) (word-listed (a .masks .now) (a .words .now) (a .key) (b .pre .2) (b .pre .4))) (search needs)
     (finds-each-end (variable (a .x)) (seen-small (a .d) (a .t .now) (b .fits .d .fits)) (rw (e, c .before .before .before .row-at .ensures) at (c .before .loop .inv .1)))
 

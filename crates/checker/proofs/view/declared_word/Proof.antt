@@ -4,14 +4,14 @@ use mathlib.Core.Path.{_≡_, _∙_}
 use mathlib.Core.List.{[]}
 use Prim.Native.Nat.{_-_, _≤_}
 use native.Mathlib.Omega.{arith}
-use Rattle.statements.specs.Desk.{desk}
+use Rattle.views.specs.Arrays.{programBy}
 use Rattle.verdicts.specs.Check.{declaredWord}
 use Rattle.checker.proofs.Seen.{word-none, word-next}
 use Rattle.checker.proofs.view.declared_word.Statement.{statement}
 use Rattle.checker.proofs.view.declared_word.Tie as tie
 
 abbrev Inv-loop : tie.InvT-loop
-Inv-loop types w₀ l₀ w l = (l ≤ 64) × (w ≡ declaredWord l (desk types [] [] [] [] .sheet))
+Inv-loop types w₀ l₀ w l = (l ≤ 64) × (w ≡ declaredWord l (programBy types [] [] [] [] .sheet))
 
 abbrev μ-loop : tie.MeasureT-loop
 μ-loop types w₀ l₀ w l = 64 - l
@@ -35,7 +35,7 @@ loop-again : tie.Need-loop-again Inv-loop μ-loop
 loop-again c =
     let a = c .before .before .before .before .args in
     let r = c .before .before .before .loop in
-    (search needs, rw (r .inv .1) at (c .with-label .ensures) ∙ word-next (desk (a .types .now) [] [] [] [] .sheet) (r .l))
+    (search needs, rw (r .inv .1) at (c .with-label .ensures) ∙ word-next (programBy (a .types .now) [] [] [] [] .sheet) (r .l))
 
 returns : tie.Need-returns Inv-loop μ-loop
 returns c = let e : c .before .loop .l ≡ 64 = omega arith in rw e at (c .before .loop .inv .1)

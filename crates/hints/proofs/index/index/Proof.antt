@@ -1,32 +1,32 @@
--- A turn for each record: the invariant is that a record begins at `at`, or the file ends there, and that records begin where `starts` says. Assumes nothing.
+-- A turn for each record: the invariant is that a record begins at `at`, or the file ends there, and that records begin where bits are. Assumes nothing.
 use borrow.Author.Needs.{needs}
 use mathlib.Core.Path.{_≡_, sym, ap₂, _∙_}
-use mathlib.Core.Logic.{⊎-elim}
 use mathlib.Core.List.{List}
 use mathlib.Core.Bool.{Bool, true, false, _&&_, true≢false}
-use Prim.Native.Nat.{ℕ, _+_, _-_, _/_, _≤_, _<_}
+use Prim.Native.Nat.{ℕ, _+_, _-_, _≤_, _<_}
 use native.Mathlib.Omega.{arith}
-use lib.ListN.{length, getD, length-set}
+use lib.ListN.{length, getD}
 use lib.Dec.{ltb}
 use borrow.Author.Tests.{ltb-true}
 use Rattle.layout.specs.Layout.{bodyLength}
 use Rattle.layout.proofs.Table.{length-at, body-short}
-use Rattle.hints.specs.Walk.{Walk}
-use Rattle.hints.proofs.Walk.{walk-known, walk-room, walk-next, more-starts}
+use Rattle.hints.specs.Walk.{Walk, BeginsFrom}
+use Rattle.hints.proofs.Walk.{walk-known, walk-room, walk-next}
+use Rattle.hints.proofs.Begins.{begins-more}
 use Rattle.hints.proofs.index.index.Statement.{statement}
 use Rattle.hints.proofs.index.index.Tie as tie
 
 abbrev Inv-loop2 : tie.InvT-loop2
-Inv-loop2 file classes needs starts reads₀ named₀ from end lengths at kind n b block part j₀ reads named j = (j ≤ n) × (length reads ≡ 256) × (length named ≡ 256)
+Inv-loop2 file classes needs starts loads reads₀ named₀ half from end lengths at kind n b block part j₀ reads named j = (j ≤ n) × (length reads ≡ 256) × (length named ≡ 128)
 
 abbrev μ-loop2 : tie.MeasureT-loop2
-μ-loop2 file classes needs starts reads₀ named₀ from end lengths at kind n b block part j₀ reads named j = n - j
+μ-loop2 file classes needs starts loads reads₀ named₀ half from end lengths at kind n b block part j₀ reads named j = n - j
 
 abbrev Inv-loop : tie.InvT-loop
-Inv-loop file classes needs starts₀ reads₀ named₀ from end lengths at₀ starts reads named at = Walk file at × (length starts ≡ 256) × (length reads ≡ 256) × (length named ≡ 256) × ((b : ℕ) → b < 256 → Walk file (getD starts b 0))
+Inv-loop file classes needs starts₀ loads₀ reads₀ named₀ half from end lengths at₀ starts loads reads named at = Walk file at × (length starts ≡ 256) × (length loads ≡ 256) × (length reads ≡ 256) × (length named ≡ 128) × BeginsFrom file half starts × BeginsFrom file half loads
 
 abbrev μ-loop : tie.MeasureT-loop
-μ-loop file classes needs starts₀ reads₀ named₀ from end lengths at₀ starts reads named at = length file - at
+μ-loop file classes needs starts₀ loads₀ reads₀ named₀ half from end lengths at₀ starts loads reads named at = length file - at
 
 both : (a b : Bool) → (a && b) ≡ true → b ≡ true
 both true b e = e
@@ -55,22 +55,11 @@ room c = omega (arith, size c, walk-room (c .before .before .before .before .loo
 onward : (c : tie.After-wide2 Inv-loop2 μ-loop2 Inv-loop μ-loop) → Walk (c .before .before .before .before .before .before .before .args .file .now) (c .before .before .before .before .loop .at + 1 + c .wide2 .result)
 onward c = walk-next (c .before .before .before .before .loop .inv .0) (inside (c .before .before .before)) (c .wide2 .result) (size c)
 
--- where it has kept the record's position
-kept : (c : tie.Joined1 Inv-loop2 μ-loop2 Inv-loop μ-loop) → (length (c .if1 .starts) ≡ 256) × ((b : ℕ) → b < 256 → Walk (c .before .before .before .before .before .before .before .before .before .before .args .file .now) (getD (c .if1 .starts) b 0))
-kept c =
-    let r = c .before .before .before .before .before .before .before .loop in
-    let i = r .inv in
-    let h : r .at / 128 < length (r .starts) = omega (arith, inside (c .before .before .before .before .before .before), c .before .before .before .before .before .before .before .before .before .before .pre .1, i .1) in
-    ⊎-elim
-    (λ w. rw (w .1) (length-set (r .starts) (r .at / 128) (r .at) ∙ i .1, more-starts (r .starts) (r .at / 128) (r .at) h (i .0) (i .4)))
-    (λ w. rw (w .1) (i .1, i .4))
-    (c .if1 .came)
-
 lengths-requires : tie.Need-lengths-requires Inv-loop2 μ-loop2 Inv-loop μ-loop
 lengths-requires c κs = search needs
 
 loop-holds : tie.Need-loop-holds Inv-loop2 μ-loop2 Inv-loop μ-loop
-loop-holds c = let pre = c .before .before .pre in (pre .0, pre .2, pre .3, pre .4, pre .5)
+loop-holds c = let pre = c .before .before .pre in (pre .0, pre .2, pre .3, pre .4, pre .5, pre .6, pre .7)
 
 shared-slice-read-wide : tie.Need-shared-slice-read-wide Inv-loop2 μ-loop2 Inv-loop μ-loop
 shared-slice-read-wide c = inside (c .before)
@@ -87,47 +76,41 @@ wide-requires-2 c κs = search needs
 single-requires : tie.Need-single-requires Inv-loop2 μ-loop2 Inv-loop μ-loop
 single-requires c κs = search needs
 
-mul-if1 : tie.Need-mul-if1 Inv-loop2 μ-loop2 Inv-loop μ-loop
-mul-if1 c = omega (arith, inside (c .before .before .before .before), c .before .before .before .before .before .before .before .before .pre .1)
+place-requires : tie.Need-place-requires Inv-loop2 μ-loop2 Inv-loop μ-loop
+place-requires c κs = c .before .before .before .before .before .before .loop .inv .1
 
-element-copy-out-if1 : tie.Need-element-copy-out-if1 Inv-loop2 μ-loop2 Inv-loop μ-loop
-element-copy-out-if1 c = omega (arith, inside (c .before .before .before .before), c .before .before .before .before .before .before .before .before .pre .1)
-
-mul-starts : tie.Need-mul-starts Inv-loop2 μ-loop2 Inv-loop μ-loop
-mul-starts c = omega (arith, inside (c .before .before .before .before .before .before), c .before .before .before .before .before .before .before .before .before .before .pre .1)
-
-element-write-starts : tie.Need-element-write-starts Inv-loop2 μ-loop2 Inv-loop μ-loop
-element-write-starts c = omega (arith, inside (c .before .before .before .before .before .before), c .before .before .before .before .before .before .before .before .before .before .pre .1)
+place-requires-2 : tie.Need-place-requires-2 Inv-loop2 μ-loop2 Inv-loop μ-loop
+place-requires-2 c κs = c .before .before .before .before .before .before .before .before .loop .inv .2
 
 loop2-holds : tie.Need-loop2-holds Inv-loop2 μ-loop2 Inv-loop μ-loop
-loop2-holds c = let i = c .before .before .before .before .before .before .before .loop .inv in (omega arith, i .2, i .3)
+loop2-holds c = let i = c .before .before .before .before .before .before .before .before .before .loop .inv in (omega arith, i .3, i .4)
 
 mul-note-byte : tie.Need-mul-note-byte Inv-loop2 μ-loop2 Inv-loop μ-loop
-mul-note-byte c = omega (arith, known (c .before .before .before .before .before .before .before))
+mul-note-byte c = omega (arith, known (c .before .before .before .before .before .before .before .before .before))
 
 add-note-byte : tie.Need-add-note-byte Inv-loop2 μ-loop2 Inv-loop μ-loop
-add-note-byte c = omega (arith, known (c .before .before .before .before .before .before .before), short (c .before .before .before .before .before .before .before), c .before .before .loop2-test .taken)
+add-note-byte c = omega (arith, known (c .before .before .before .before .before .before .before .before .before), short (c .before .before .before .before .before .before .before .before .before), c .before .before .loop2-test .taken)
 
 mul-note-byte-2 : tie.Need-mul-note-byte-2 Inv-loop2 μ-loop2 Inv-loop μ-loop
-mul-note-byte-2 c = omega (arith, known (c .before .before .before .before .before .before .before), short (c .before .before .before .before .before .before .before), c .before .before .loop2-test .taken)
+mul-note-byte-2 c = omega (arith, known (c .before .before .before .before .before .before .before .before .before), short (c .before .before .before .before .before .before .before .before .before), c .before .before .loop2-test .taken)
 
 element-copy-out-note-byte : tie.Need-element-copy-out-note-byte Inv-loop2 μ-loop2 Inv-loop μ-loop
-element-copy-out-note-byte c = omega (arith, known (c .before .before .before .before .before .before .before), short (c .before .before .before .before .before .before .before), c .before .before .loop2-test .taken)
+element-copy-out-note-byte c = omega (arith, known (c .before .before .before .before .before .before .before .before .before), short (c .before .before .before .before .before .before .before .before .before), c .before .before .loop2-test .taken)
 
 add-note-byte-2 : tie.Need-add-note-byte-2 Inv-loop2 μ-loop2 Inv-loop μ-loop
-add-note-byte-2 c = omega (arith, room (c .before .before .before .before .before .before .before .before), c .before .before .before .loop2-test .taken, c .before .before .before .before .before .before .before .before .before .before .before .before .before .before .before .pre .1)
+add-note-byte-2 c = omega (arith, room (c .before .before .before .before .before .before .before .before .before .before), c .before .before .before .loop2-test .taken, c .before .before .before .before .before .before .before .before .before .before .before .before .before .before .before .before .before .pre .1)
 
 add-note-byte-3 : tie.Need-add-note-byte-3 Inv-loop2 μ-loop2 Inv-loop μ-loop
-add-note-byte-3 c = omega (arith, room (c .before .before .before .before .before .before .before .before), c .before .before .before .loop2-test .taken, c .before .before .before .before .before .before .before .before .before .before .before .before .before .before .before .pre .1)
+add-note-byte-3 c = omega (arith, room (c .before .before .before .before .before .before .before .before .before .before), c .before .before .before .loop2-test .taken, c .before .before .before .before .before .before .before .before .before .before .before .before .before .before .before .before .before .pre .1)
 
 shared-slice-read-note-byte : tie.Need-shared-slice-read-note-byte Inv-loop2 μ-loop2 Inv-loop μ-loop
-shared-slice-read-note-byte c = omega (arith, room (c .before .before .before .before .before .before .before .before .before), c .before .before .before .before .loop2-test .taken)
+shared-slice-read-note-byte c = omega (arith, room (c .before .before .before .before .before .before .before .before .before .before .before), c .before .before .before .before .loop2-test .taken)
 
 note-byte-requires : tie.Need-note-byte-requires Inv-loop2 μ-loop2 Inv-loop μ-loop
-note-byte-requires c κs = let i = c .before .before .before .before .before .loop2 .inv in (omega (arith, inside (c .before .before .before .before .before .before .before .before .before .before .before .before), c .before .before .before .before .before .before .before .before .before .before .before .before .before .before .before .before .pre .1), i .1, i .2)
+note-byte-requires c κs = let i = c .before .before .before .before .before .loop2 .inv in (omega (arith, inside (c .before .before .before .before .before .before .before .before .before .before .before .before .before .before), c .before .before .before .before .before .before .before .before .before .before .before .before .before .before .before .before .before .before .pre .1), i .1, i .2)
 
 add-j : tie.Need-add-j Inv-loop2 μ-loop2 Inv-loop μ-loop
-add-j c = omega (arith, short (c .before .before .before .before .before .before .before .before .before .before), c .before .before .before .before .before .loop2-test .taken)
+add-j c = omega (arith, short (c .before .before .before .before .before .before .before .before .before .before .before .before), c .before .before .before .before .before .loop2-test .taken)
 
 loop2-less : tie.Need-loop2-less Inv-loop2 μ-loop2 Inv-loop μ-loop
 loop2-less c = omega (arith, c .before .before .before .before .before .loop2-test .taken)
@@ -136,21 +119,32 @@ loop2-again : tie.Need-loop2-again Inv-loop2 μ-loop2 Inv-loop μ-loop
 loop2-again c = (omega (arith, c .before .before .before .before .before .loop2-test .taken), c .note-byte .ensures .0, c .note-byte .ensures .1)
 
 add-at : tie.Need-add-at Inv-loop2 μ-loop2 Inv-loop μ-loop
-add-at c = omega (arith, room (c .before .before .before .before .before), c .before .before .before .before .before .before .before .before .before .before .before .before .pre .1)
+add-at c = omega (arith, room (c .before .before .before .before .before .before .before), c .before .before .before .before .before .before .before .before .before .before .before .before .before .before .pre .1)
 
 add-at-2 : tie.Need-add-at-2 Inv-loop2 μ-loop2 Inv-loop μ-loop
-add-at-2 c = omega (arith, room (c .before .before .before .before .before), c .before .before .before .before .before .before .before .before .before .before .before .before .pre .1)
+add-at-2 c = omega (arith, room (c .before .before .before .before .before .before .before), c .before .before .before .before .before .before .before .before .before .before .before .before .before .before .pre .1)
 
 loop-less : tie.Need-loop-less Inv-loop2 μ-loop2 Inv-loop μ-loop
-loop-less c = omega (arith, room (c .before .before .before .before .before), inside (c .before .before .before .before .before .before .before .before))
+loop-less c = omega (arith, room (c .before .before .before .before .before .before .before), inside (c .before .before .before .before .before .before .before .before .before .before))
 
 loop-again : tie.Need-loop-again Inv-loop2 μ-loop2 Inv-loop μ-loop
 loop-again c =
-    let i = c .before .loop2 .inv in
-    (onward (c .before .before .before .before .before), kept (c .before .before) .0, i .1, i .2, kept (c .before .before) .1)
+    let i = c .before .before .before .before .before .before .before .before .before .before .before .loop .inv in
+    let noted = c .before .loop2 .inv in
+    let starts = c .before .before .before .before .place .ensures in
+    let loads = c .before .before .place2 .ensures in
+    let half = c .before .before .before .before .before .before .before .before .before .before .before .before .before .before .args .half in (
+      onward (c .before .before .before .before .before .before .before),
+      starts .1,
+      loads .1,
+      noted .1,
+      noted .2,
+      begins-more half (c .before .before .before .before .before .before .before .before .before .before .before .loop .starts) (c .before .before .before .before .place .last .1 .0) (i .0) (i .5) (starts .0),
+      begins-more half (c .before .before .before .before .before .before .before .before .before .before .before .loop .loads) (c .before .before .place2 .last .1 .0) (i .0) (i .6) (loads .0),
+    )
 
 returns : tie.Need-returns Inv-loop2 μ-loop2 Inv-loop μ-loop
-returns c = let i = c .before .loop .inv in (i .0, (i .4, (i .1, i .2, i .3)))
+returns c = let i = c .before .loop .inv in ((i .0, i .5, i .6), (i .1, i .2, i .3, i .4))
 
 pub index-spec : {M : Type 1} → statement M
 index-spec =
@@ -167,10 +161,8 @@ index-spec =
     array-read-wide
     wide-requires-2
     single-requires
-    mul-if1
-    element-copy-out-if1
-    mul-starts
-    element-write-starts
+    place-requires
+    place-requires-2
     loop2-holds
     mul-note-byte
     add-note-byte

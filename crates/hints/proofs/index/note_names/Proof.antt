@@ -8,7 +8,7 @@ use Rattle.hints.proofs.index.note_names.Statement.{statement}
 use Rattle.hints.proofs.index.note_names.Tie as tie
 
 abbrev Inv-loop : tie.InvT-loop
-Inv-loop named₀ names part block rest₀ n₀ named rest n = (length named ≡ 256) × Ahead names n rest
+Inv-loop named₀ names part block rest₀ n₀ named rest n = (length named ≡ 128) × Ahead names n rest
 
 abbrev μ-loop : tie.MeasureT-loop
 μ-loop named₀ names part block rest₀ n₀ named rest n = 64 - n

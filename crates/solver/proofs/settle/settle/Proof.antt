@@ -16,10 +16,11 @@ use Rattle.program.specs.Program.{Program, programOf}
 use Rattle.analysis.specs.Rules.{rules}
 use Rattle.analysis.proofs.Fit.{rules-fit}
 use Rattle.lookups.specs.Kept.{Fulls, Same, Sizes}
-use Rattle.statements.specs.Desk.{passRules}
-use Rattle.statements.specs.View.{Laid, View}
-use Rattle.solver.specs.Behind.{Behind}
-use Rattle.solver.proofs.Same.{to-pass, from-pass, program-types, laid, classes-below}
+use Rattle.views.specs.Arrays.{passRules}
+use Rattle.views.specs.View.{Laid, View}
+use Rattle.passes.specs.Behind.{Behind}
+use Rattle.views.proofs.Words.{classes-below}
+use Rattle.solver.proofs.Same.{to-pass, from-pass, program-types, laid}
 use Rattle.solver.proofs.Settling.{Settling, settling-first, view-stale, behind-whole, quick-still, settling-next, turn-left, settling-least}
 use Rattle.solver.proofs.settle.settle.Statement.{statement}
 use Rattle.solver.proofs.settle.settle.Tie as tie

@@ -1,7 +1,7 @@
 -- The prototype by the type. Assumes nothing.
 use mathlib.Core.Path.{ap}
 use Rattle.analysis.specs.Rules.{parentsOf}
-use Rattle.statements.proofs.Chains.{parents-other}
+use Rattle.views.proofs.Parents.{parents-other}
 use borrow.Author.Needs.{needs}
 use Rattle.statements.proofs.chain.parent_of.Statement.{statement}
 use Rattle.statements.proofs.chain.parent_of.Tie as tie

@@ -7,8 +7,9 @@ use Rattle.rows.specs.Row.{variable, property, thrown}
 use Rattle.rules.proofs.Sweep.{give-row, include-rows}
 use Rattle.rules.proofs.Resumes.{sweeps-resumes, resumes-both, resumes-none, within-on}
 use Rattle.program.specs.Program.{namesOf, statements, guestStatements, guestsStatements, returnsOf}
-use Rattle.statements.specs.Range.{Key}
-use Rattle.statements.proofs.Finds.{unions-at, keeping-four}
+use Rattle.views.specs.Range.{Key}
+use Rattle.properties.proofs.Loads.{unions-at}
+use Rattle.properties.proofs.Stores.{keeping-four}
 use Rattle.statements.proofs.Records.{resumes-one}
 use borrow.Author.Needs.{needs}
 use Rattle.statements.proofs.guest.guest.Statement.{statement}

@@ -4,7 +4,8 @@ use Prim.Native.Nat.{_+_, _-_, _≤_, _<_}
 use native.Mathlib.Omega.{arith}
 use lib.ListN.{getD}
 use Rattle.program.specs.Statement.{statementsOf}
-use Rattle.statements.proofs.Finds.{unions-at, class-named}
+use Rattle.views.proofs.Words.{class-named}
+use Rattle.properties.proofs.Loads.{unions-at}
 use Rattle.statements.proofs.Records.{load-at}
 use borrow.Author.Needs.{needs}
 use Rattle.statements.proofs.record.load_record.Statement.{statement}

@@ -3,8 +3,8 @@ use mathlib.Core.List.{[]}
 use Rattle.rules.proofs.Resumes.{sweeps-resumes, resumes-none}
 use Rattle.program.specs.Statement.{statementsOf}
 use Rattle.program.specs.Program.{namesOf, returnsOf, statements, guestsStatements}
-use Rattle.statements.specs.Desk.{desk}
-use Rattle.statements.proofs.Finds.{keeping}
+use Rattle.views.specs.Arrays.{programBy}
+use Rattle.properties.proofs.Stores.{keeping}
 use Rattle.statements.proofs.Records.{resumes-one, variable-for, silent}
 use borrow.Author.Needs.{needs}
 use Rattle.statements.proofs.record.statement.Statement.{statement}
@@ -62,7 +62,7 @@ unfolding statementsOf namesOf returnsOf statements guestsStatements
 returns c =
     let start = c .before .before .before .before .before .before .before in (
       λ p returned old new laid view within f.
-          rw (c .before .before .before .before .match .keys1) (keeping (start .args .classes .now) (start .args .lower-meets .now) (start .args .upper-meets .now) (sweeps-resumes within (variable-for (desk [] [] [] [] []) p (start .args .body .now) (c .before .before .variable-record .ensures))) f),
+          rw (c .before .before .before .before .match .keys1) (keeping (start .args .classes .now) (start .args .lower-meets .now) (start .args .upper-meets .now) (sweeps-resumes within (variable-for (programBy [] [] [] [] []) p (start .args .body .now) (c .before .before .variable-record .ensures))) f),
       (start .pre .6, start .pre .7),
     )
 

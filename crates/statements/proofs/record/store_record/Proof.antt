@@ -4,7 +4,7 @@ use Prim.Native.Nat.{ℕ, _+_, _-_, _*_, _/_, _%_, _≤_}
 use native.Mathlib.Omega.{arith}
 use lib.ListN.{getD}
 use Rattle.program.specs.Statement.{statementsOf}
-use Rattle.statements.proofs.Finds.{keeping, keeping-four}
+use Rattle.properties.proofs.Stores.{keeping, keeping-four}
 use Rattle.statements.proofs.Records.{store-at}
 use borrow.Author.Needs.{needs}
 use Rattle.statements.proofs.record.store_record.Statement.{statement}

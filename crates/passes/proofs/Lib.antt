@@ -1,0 +1,4 @@
+-- The laws of passes. Assumes nothing.
+pub mod Walk
+pub mod Behinds
+pub mod Turns

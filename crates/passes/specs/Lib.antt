@@ -1,0 +1,2 @@
+-- What is kept between passes.
+pub mod Behind

@@ -1,2 +1,0 @@
--- What the solver keeps between passes.
-pub mod Behind
