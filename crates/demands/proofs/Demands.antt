@@ -1,8 +1,8 @@
 -- The demands hold, for every number of labels from 5 up, every list of bytes and every table. Assumes nothing.
 use mathlib.Core.Path.{_≡_, refl, sym, ap, subst, _∙_}
-use mathlib.Core.Logic.{_↔_, _⊎_, inl, inr}
+use mathlib.Core.Logic.{_⊎_, inl, inr}
 use mathlib.Core.Bool.{Bool, true, false, cond}
-use mathlib.Core.List.{List, [], _∷_, _++_, List·Memᴰ, List·Memᴰ·cases-cons, List·Memᴰ·not-nil}
+use mathlib.Core.List.{List, [], List·Memᴰ, List·Memᴰ·cases-cons, List·Memᴰ·not-nil}
 use Prim.Native.Nat.{ℕ, _≤_, _<_}
 use native.Mathlib.Omega.{arith}
 use lib.ListN.{length, getD, drop, List·getD-append}
@@ -10,23 +10,21 @@ use lib.Dec.{eqb, ltb}
 use borrow.Author.Tests.{ltb-true, eqb-false}
 use Rattle.words.specs.Words.{bit}
 use Rattle.rows.specs.Row.{rowCount}
-use Rattle.rules.specs.Table.{Table, Has, emptyTable, facts}
-use Rattle.rules.specs.Told.{Derives}
+use Rattle.rules.specs.Table.{Table, Has, facts}
 use Rattle.rules.proofs.Beyond.{facts-append}
 use Rattle.format.specs.Reading.{Readable, Concatenation, readFile}
 use Rattle.format.proofs.File.{readable-iff}
-use Rattle.program.specs.Program.{Program, Guest, programOf, guestsOf}
-use Rattle.analysis.specs.Rules.{rules}
+use Rattle.program.specs.Program.{Guest, programOf}
 use Rattle.analysis.specs.Verdict.{leastTable}
 use Rattle.analysis.proofs.Proper.{readable-proper}
 use Rattle.analysis.proofs.Least.{table-length, table-derives}
-use Rattle.answer.specs.Outcome.{Outcome, confined, leaks, refused, countOf}
-use Rattle.verdicts.specs.Verdict.{admitted, judged, verdictOutcome, verdictTable, programIn, forbiddenHeld}
-use Rattle.verdicts.specs.Check.{cleaned, Accepts}
+use Rattle.answer.specs.Outcome.{confined, leaks, refused, countOf}
+use Rattle.verdicts.specs.Verdict.{judged, verdictOutcome, verdictTable, programIn, forbiddenHeld}
+use Rattle.verdicts.specs.Check.{cleaned}
 use Rattle.verdicts.proofs.Cleaned.{has-cleaned}
 use Rattle.verdicts.proofs.Accept.{accepted-acceptable}
 use Rattle.verdicts.proofs.Judged.{judged-cases, none-forbidden}
-use Rattle.verdicts.proofs.Outcomes.{refused-unchanged, verdict-leaks, verdict-confined}
+use Rattle.verdicts.proofs.Outcomes.{refused-unchanged}
 use Rattle.verdicts.proofs.Demand.{verdict-judged, table-left, leaks-iff, confined-iff, confined-accepts}
 use Rattle.soundness.specs.Confined as machine
 use Rattle.soundness.proofs.Safe.{safe}

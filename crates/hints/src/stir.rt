@@ -5,17 +5,6 @@ ghost use lib.ListN.{length};
 use lookups::note::noted;
 use tables::gather::gather;
 
-// Whether few rows grew, so that a quick pass is worth while.
-pub fn few(last: &[u64; 38]) -> bool {
-    let mut rows: u32 = 0;
-    let mut i: usize = 0;
-    while i < 38 {
-        rows = rows + words::size(last[i]);
-        i += 1;
-    }
-    rows < 64
-}
-
 fn part_of(yes: bool, sum: u64) -> u64 {
     if yes { sum } else { 0 }
 }

@@ -15,12 +15,11 @@ use crate::quick::quick;
 use crate::renew::renew;
 use hints::parts::index_all;
 use hints::parts::mark_all;
-use hints::stir::few;
 use hints::stir::stir;
 use lookups::look::stirred_labels;
 use lookups::note::note;
 
-// Quick passes, `go` says whether any, while each adds something and few rows grow. The answer is the functions that hand back more since the last whole
+// Quick passes, `go` says whether any, while each adds something. The answer is the functions that hand back more since the last whole
 // pass.
 pub fn hurry(
     go: bool,
@@ -89,7 +88,7 @@ pub fn hurry(
     let mut sums = [0u64; 13];
     let mut marks = [0u64; 8];
     let mut all = all_stale;
-    let mut again = few(last);
+    let mut again = true;
     while again {
         let stirred = stirred_labels(last);
         let stale = renew(
@@ -137,7 +136,7 @@ pub fn hurry(
             &mut marks,
         );
         let news = sums[10];
-        let grew = quick(
+        again = quick(
             t,
             lower_meets,
             upper_meets,
@@ -167,7 +166,6 @@ pub fn hurry(
             &loads_high,
         );
         note(t, low, high, totals, last);
-        again = grew & few(last);
     }
     all
 }

@@ -1,10 +1,10 @@
 -- The verdict's outcome and table, case by case as the operation meets them. Assumes nothing.
-use mathlib.Core.Path.{_≡_, refl, sym, ap, _∙_}
+use mathlib.Core.Path.{_≡_, refl, ap, _∙_}
 use mathlib.Core.List.{List, _++_}
 use Prim.Native.Nat.{ℕ, _≤_, _<_}
 use native.Mathlib.Omega.{arith}
 use native.Mathlib.Decide.{decLt}
-use lib.ListN.{length, getD, drop, List·getD-append}
+use lib.ListN.{length, drop, List·getD-append}
 use lib.Bits.{bitAnd}
 use lib.Count.{trailingZeros}
 use borrow.Author.Tests.{le-ltb, lt-ltb, eq-eqb, ne-eqb}
@@ -15,7 +15,7 @@ use Rattle.analysis.specs.Rules.{rules}
 use Rattle.format.specs.Reading.{readFile, Readable}
 use Rattle.format.proofs.File.{file-position-within}
 use Rattle.reader.proofs.Whole.{too-long}
-use Rattle.program.specs.Program.{programOf, guestsOf}
+use Rattle.program.specs.Program.{programOf}
 use Rattle.analysis.specs.Verdict.{leastTable, heldForbidden}
 use Rattle.analysis.proofs.Proper.{readable-proper}
 use Rattle.analysis.proofs.Least.{table-length}

@@ -1,21 +1,20 @@
 -- Laws of reading in the form in which the loop over the records meets them. Assumes nothing.
 use mathlib.Core.Path.{_≡_, refl, sym, ap, _∙_}
-use mathlib.Core.List.{List, [], _∷_, _++_}
-use mathlib.Core.Bool.{Bool, true, false, cond, true≢false}
-use Prim.Native.Nat.{ℕ, zero, suc, _+_, _-_, _≤_, _<_}
+use mathlib.Core.List.{List, _∷_}
+use mathlib.Core.Bool.{Bool, true, false, cond}
+use Prim.Native.Nat.{ℕ, suc, _+_, _-_, _≤_, _<_}
 use native.Mathlib.Numerals.{add-one}
 use native.Mathlib.Omega.{arith}
 use lib.ListN.{length, getD, take, drop, length-drop, drop-of-length-le, take-append-drop}
 use lib.Seq.{drop-cons, drop-drop, length-take-le}
-use lib.Dec.{eqb, ltb}
-use borrow.Author.Tests.{le-ltb, lt-ltb, eq-eqb, ne-eqb, eqb-true}
+use borrow.Author.Tests.{le-ltb, lt-ltb, eq-eqb, ne-eqb}
 use Rattle.layout.specs.Layout.{Class, name, fieldsOf, bodyLength}
 use Rattle.format.specs.Sheet.{Sheet, start}
 use Rattle.format.specs.Fields.{good, refusalOf, Fits, firstBad}
 use Rattle.format.specs.Records.{Record, WellFormed, after, wholeRefusal, bodyRefusal}
 use Rattle.format.specs.Reading.{Reading, stopped, preceded, recordRefusal, readFrom}
 use Rattle.format.proofs.Fields.{refusal-not-zero, none-bad-fits}
-use Rattle.format.proofs.Records.{Front, front}
+use Rattle.format.proofs.Records.{front}
 use Rattle.format.proofs.Reading.{read-end, read-refused, read-record}
 use Rattle.format.proofs.Later.{Sized, record-extends}
 use Rattle.format.proofs.Made.{start-sized}

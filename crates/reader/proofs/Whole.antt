@@ -1,12 +1,12 @@
 -- A whole file: too long, refused at a record, left without a function, or read. Assumes nothing.
-use mathlib.Core.Path.{_≡_, refl, sym, ap, _∙_}
+use mathlib.Core.Path.{_≡_, refl}
 use mathlib.Core.List.{List}
-use mathlib.Core.Bool.{Bool, true, false, not}
+use mathlib.Core.Bool.{true, false}
 use Prim.Native.Nat.{ℕ, _≤_, _<_}
 use lib.ListN.{length}
 use borrow.Author.Tests.{le-ltb, lt-ltb, eq-eqb, ne-eqb}
 use Rattle.format.specs.Sheet.{start}
-use Rattle.format.specs.Reading.{Reading, stopped, lacking, finished, longest, readFile}
+use Rattle.format.specs.Reading.{stopped, lacking, finished, longest, readFile}
 use Rattle.reader.proofs.Laws.{Agrees, whole}
 
 pub too-long : (xs : List ℕ) → longest < length xs → readFile 64 xs ≡ stopped (start 64) 9 0

@@ -2,9 +2,7 @@
 // operation says no to", without 8, which is about the table).
 use sheet::Sheet;
 ghost use mathlib.Core.Path.{_≡_};
-ghost use mathlib.Core.Bool.{not};
-ghost use Prim.Native.Nat.{_<_, _≤_};
-ghost use lib.ListN.{getD, length};
+ghost use Prim.Native.Nat.{_<_};
 ghost use Rattle.sheet.specs.View.{sheetOf};
 ghost use Rattle.format.specs.Sheet.{start};
 ghost use Rattle.format.specs.Reading.{readFrom, readFile};

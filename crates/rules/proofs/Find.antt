@@ -3,13 +3,11 @@
 use mathlib.Core.Path.{_≡_, refl, sym, _∙_, subst}
 use mathlib.Core.Logic.{_⊎_, inl, inr}
 use mathlib.Core.List.{List, [], _∷_, _++_, List·Memᴰ, List·Memᴰ·head, List·Memᴰ·not-nil, List·Memᴰ·append-cases, List·Memᴰ·eq-of-singleton, Memᴰ·append-left, Memᴰ·append-right}
-use mathlib.Core.Bool.{Bool, true, false}
+use mathlib.Core.Bool.{Bool, true}
 use Prim.Native.Nat.{ℕ, _+_, _^_, _≤_, _<_, min}
-use native.Mathlib.Numerals.{add-one}
 use native.Mathlib.Omega.{arith}
-use lib.ListN.{length, getD, take}
+use lib.ListN.{getD}
 use lib.Pow.{pow-lt}
-use lib.Seq.{take-suc, take-all}
 use borrow.Author.Tests.{eq-eqb, ne-eqb}
 use Rattle.words.specs.Words.{union}
 use Rattle.words.proofs.Bits.{On, on-single, single-only}
@@ -19,7 +17,7 @@ use Rattle.rules.specs.Rule.{Rule, none, give, include, each, over, both
 use Rattle.rules.specs.Told.{Told, Closed}
 use Rattle.rules.specs.Round.{labels}
 use Rattle.rules.specs.Gap.{Enlarges, grows, lower, Finds}
-use Rattle.rules.proofs.Labels.{label-on, on-label, labels-none, labels-on, labels-off, chosen-none, chosen-on, chosen-off}
+use Rattle.rules.proofs.Labels.{label-on, on-label, labels-on, chosen-none, chosen-on}
 use Rattle.rules.proofs.Table.{has-label}
 use Rattle.rules.proofs.Told.{closed-told}
 use Rattle.rules.proofs.Join.{grows-zero, stored}
@@ -133,14 +131,6 @@ finds-over-next {L} {t} {xs} {k} x first second = finds-for forth (λ r l h. bac
     back r l z h (inl m) = inl (z, m, h)
     back r l z h (inr m) = inr (subst (λ (n : ℕ). Told L t (k n) r l) (List·Memᴰ·eq-of-singleton m) h)
 
-pub finds-over-turn : {L : ℕ} {t : Table} {k : ℕ → Rule} {a b c : ℕ} (xs : List ℕ) (i : ℕ) → i < length xs → Finds L t (over (take i xs) k) a b
-    → Finds L t (k (getD xs i 0)) b c → Finds L t (over (take (i + 1) xs) k) a c
-finds-over-turn xs i h first second = rw (add-one, take-suc xs i 0) (finds-over-next (getD xs i 0) first second)
-
-pub finds-over-end : {L : ℕ} {t : Table} {k : ℕ → Rule} {a b : ℕ} (xs : List ℕ) (i : ℕ) → length xs ≤ i → Finds L t (over (take i xs) k) a b
-    → Finds L t (over xs k) a b
-finds-over-end xs i h s = rw (take-all i xs h) at s
-
 pub finds-chosen-start : {L : ℕ} {t : Table} {k : ℕ → Rule} {a : ℕ} (f : ℕ → Bool) → Finds L t (over (chosen f 0) k) a a
 finds-chosen-start f = rw chosen-none finds-over-none
 
@@ -148,20 +138,9 @@ pub finds-chosen-turn : {L : ℕ} {t : Table} {k : ℕ → Rule} {a b c : ℕ} (
     → Finds L t (k n) b c → Finds L t (over (chosen f (n + 1)) k) a c
 finds-chosen-turn f n e first second = rw (chosen-on f n e) (finds-over-next n first second)
 
-pub finds-chosen-pass : {L : ℕ} {t : Table} {k : ℕ → Rule} {a b : ℕ} (f : ℕ → Bool) (n : ℕ) → f n ≡ false → Finds L t (over (chosen f n) k) a b
-    → Finds L t (over (chosen f (n + 1)) k) a b
-finds-chosen-pass f n e s = rw (chosen-off f n e) s
-
-pub finds-each-start : {L : ℕ} {t : Table} {k : ℕ → Rule} {a : ℕ} (w : ℕ) → Finds L t (over (labels 0 w) k) a a
-finds-each-start w = rw labels-none finds-over-none
-
 pub finds-each-on : {L : ℕ} {t : Table} {k : ℕ → Rule} {a b c : ℕ} (w l : ℕ) → On w l → Finds L t (over (labels l w) k) a b
     → Finds L t (k l) b c → Finds L t (over (labels (l + 1) w) k) a c
 finds-each-on w l o first second = rw (labels-on l w o) (finds-over-next l first second)
-
-pub finds-each-off : {L : ℕ} {t : Table} {k : ℕ → Rule} {a b : ℕ} (w l : ℕ) → (On w l → ⊥) → Finds L t (over (labels l w) k) a b
-    → Finds L t (over (labels (l + 1) w) k) a b
-finds-each-off w l n s = rw (labels-off l w n) s
 
 pub finds-each-end : {L : ℕ} {t : Table} {k : ℕ → Rule} {a b : ℕ} (x : Row) → Small L t
     → Finds L t (over (labels L (getD t (number L x) 0)) k) a b → Finds L t (each x k) a b

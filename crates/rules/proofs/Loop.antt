@@ -1,7 +1,7 @@
 -- Sweeps by loops: over the numbers of a list, over the labels of a word, over a list of rules. The invariant of a loop is "swept for the part of the
 -- rule that is done", and nothing else. The labels looped over are those of the word as it was read before the loop, though the row may grow
 -- meanwhile. Assumes nothing.
-use mathlib.Core.Path.{_≡_, refl, sym, subst}
+use mathlib.Core.Path.{refl, sym, subst}
 use mathlib.Core.Logic.{_⊎_, inl, inr}
 use mathlib.Core.List.{List, [], _∷_, _++_, List·Memᴰ, List·Memᴰ·head, List·Memᴰ·not-nil, List·Memᴰ·append-cases, List·Memᴰ·eq-of-singleton, Memᴰ·append-left, Memᴰ·append-right}
 use mathlib.Core.Bool.{Bool, false, _||_}

@@ -3,10 +3,9 @@
 use mathlib.Core.Path.{_≡_, refl, sym, _∙_, subst}
 use mathlib.Core.Logic.{_⊎_, inl, inr}
 use mathlib.Core.List.{List, [], _∷_, _++_}
-use mathlib.Core.Bool.{Bool, true, false, _||_, _&&_}
+use mathlib.Core.Bool.{Bool, true, false, _||_}
 use Prim.Native.Nat.{ℕ, _^_, _<_}
 use native.Mathlib.Omega.{arith}
-use lib.ListN.{getD}
 use Rattle.words.proofs.Bits.{On}
 use Rattle.rows.specs.Row.{rowCount}
 use Rattle.rules.specs.Table.{Table, Within, Shaped, facts}
@@ -151,15 +150,14 @@ module _ {L : ℕ} {old new : Table} where
 pub resumes-closed : {L : ℕ} {p : Rule} {old t u : Table} {grew : Bool} → Resumes L p old t t u grew → Draws L old t p → grew ≡ false → Closed L u p
 resumes-closed {L} {p} {old} {t} {u} s d e = heeds-closed L u p (subst (λ (x : Table). Heeds L x u p) (sym (s .still e)) (s .follows d))
 
--- what falls with every turn of a loop that stops where nothing was added, or sooner
-pub adds-left : {L : ℕ} {p : Rule} {t u : Table} {again grew : Bool} (on : Bool) → again ≡ true → Adds L p t u grew → left L (grew && on) u < left L again t
+-- what falls with every turn of a loop that stops where nothing was added
+pub adds-left : {L : ℕ} {p : Rule} {t u : Table} {again grew : Bool} → again ≡ true → Adds L p t u grew → left L grew u < left L again t
 unfolding room
-adds-left {L} {p} {t} {u} {again} {grew} on e s = rw e (go grew refl on)
+adds-left {L} {p} {t} {u} {again} {grew} e s = rw e (go grew refl)
   where
-    go : (b : Bool) → grew ≡ b → (d : Bool) → left L (b && d) u < left L true t
-    go true g true = omega (arith, s .more g, facts-room L u)
-    go true g false = omega arith
-    go false g d = omega arith
+    go : (b : Bool) → grew ≡ b → left L b u < left L true t
+    go true g = omega (arith, s .more g, facts-room L u)
+    go false g = omega arith
 
 -- what is within the table stays within it
 pub within-on : {L : ℕ} {p : Rule} {t u : Table} (s : Table) → Within s t → Reaches L p t u → Within s u

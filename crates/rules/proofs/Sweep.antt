@@ -1,7 +1,7 @@
 -- Work in place: a table reached by steps that the rule bears out, and closed, is the least table above the start, whatever the order
 -- of the steps. The laws make the promise of a function for
 -- a rule out of those of the functions that it calls. Assumes nothing.
-use mathlib.Core.Path.{_≡_, refl, sym, _∙_, subst}
+use mathlib.Core.Path.{_≡_, refl, sym, _∙_}
 use mathlib.Core.Logic.{_⊎_, inl, inr}
 use mathlib.Core.Bool.{Bool, true, false, _||_}
 use Prim.Native.Nat.{ℕ, suc, _*_, _-_, _^_, _≤_, _<_}
@@ -16,7 +16,7 @@ use Rattle.rules.specs.Told.{Told, Closed, Fits}
 use Rattle.rules.specs.Round.{join, leastAbove}
 use Rattle.rules.specs.Gap.{grows}
 use Rattle.rules.specs.Sweep.{Reaches, Heeds, Draws, Sweeps}
-use Rattle.rules.proofs.Table.{facts-room, facts-within, facts-more}
+use Rattle.rules.proofs.Table.{facts-within, facts-more}
 use Rattle.rules.proofs.Told.{told-within}
 use Rattle.rules.proofs.Join.{join-length, join-keeps, join-other, join-row-zero, has-join, join-tells, join-small, not-grown-same, grown-differs}
 use Rattle.rules.proofs.Least.{least-only}

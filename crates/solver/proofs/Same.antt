@@ -13,7 +13,6 @@ use Rattle.rules.specs.Rule.{Rule, every, chosen}
 use Rattle.rules.specs.Told.{Closed}
 use Rattle.rules.specs.Round.{leastAbove}
 use Rattle.rules.proofs.Table.{empty-shaped}
-use Rattle.rules.proofs.Labels.{chosen-passes}
 use Rattle.rules.proofs.Beyond.{least-append}
 use Rattle.rules.proofs.Loop.{closed-append, append-closed}
 use Rattle.format.specs.Sheet.{Sheet, typeOf}
@@ -29,7 +28,7 @@ use Rattle.analysis.proofs.Proper.{readable-proper}
 use Rattle.analysis.proofs.Returned.{readable-returned, returns-below}
 use Rattle.tables.specs.Sets.{Listed}
 use Rattle.views.specs.Arrays.{programBy, sheetProgram, passRules, theGuest}
-use Rattle.views.specs.View.{Named, Laid}
+use Rattle.views.specs.View.{Laid}
 
 -- ---- the rules in the order of a pass
 

@@ -1,4 +1,3 @@
 -- Laws that other crates cite. Assumes nothing.
 pub mod Loops
-pub mod Found
 pub mod Stored

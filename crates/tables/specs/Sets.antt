@@ -16,12 +16,6 @@ pub record Properties (t : Table) (ms names r : ℕ) : Type 0 where
   pub source : (x : ℕ) → bit r x ≡ 1 → (m : ℕ) × (bit ms m ≡ 1) × ((n : ℕ) × (bit names n ≡ 1) × Has t (256 + 32 * m + n) x)
   pub all : (m n x : ℕ) → bit ms m ≡ 1 → bit names n ≡ 1 → Has t (256 + 32 * m + n) x → bit r x ≡ 1
 
--- r is the union of H(m,n) for each label m on the chain of a label of the word ls, and each name n of the word names
-pub record Found (t : Table) (ls names r : ℕ) : Type 0 where
-  pub source : (x : ℕ) → bit r x ≡ 1
-      → (l : ℕ) × (bit ls l ≡ 1) × ((m : ℕ) × Has t (2304 + l) m × ((n : ℕ) × (bit names n ≡ 1) × Has t (256 + 32 * m + n) x))
-  pub all : (l m n x : ℕ) → bit ls l ≡ 1 → Has t (2304 + l) m → bit names n ≡ 1 → Has t (256 + 32 * m + n) x → bit r x ≡ 1
-
 -- the word has a bit for each number of the list, and no other
 pub record Listed (ns : List ℕ) (w : ℕ) : Type 0 where
   pub source : (n : ℕ) → bit w n ≡ 1 → List·Memᴰ n ns

@@ -1,5 +1,4 @@
 // Unions of rows, collected in a word; nothing is written.
-ghost use mathlib.Core.Path.{_≡_};
 ghost use Prim.Native.Nat.{_+_, _<_, _≤_};
 ghost use lib.ListN.{length};
 ghost use Rattle.tables.specs.Sets.{Gathered, Properties};

@@ -1,6 +1,5 @@
 -- `fields::is_good` meets its contract. Assumes nothing.
 use Prim.Native.Nat.{_≤_}
-use native.Mathlib.Omega.{arith}
 use Rattle.layout.proofs.Table.{class-rest}
 use Rattle.fields.proofs.Laws.{beyond}
 use Rattle.format.specs.Fields.{good}

@@ -1,7 +1,7 @@
 -- The invariant: the total of the first i rows, and that it is small. Assumes nothing.
 use borrow.Author.Needs.{needs}
 use mathlib.Core.Path.{_≡_, sym}
-use Prim.Native.Nat.{ℕ, _+_, _-_, _*_, _≤_}
+use Prim.Native.Nat.{_+_, _-_, _*_, _≤_}
 use native.Mathlib.Omega.{arith}
 use Rattle.lookups.specs.Kept.{total}
 use Rattle.lookups.proofs.Totals.{total-none, total-more}

@@ -53,7 +53,7 @@ abbrev turn-of : tie.After-renew Inv-loop μ-loop → tie.At-loop Inv-loop μ-lo
 turn-of c = c .before .before .before .before .before .before .before .before .before .before .before .before .before .before .before .before
 
 abbrev index-of : tie.At-loop Inv-loop μ-loop → tie.After-index-all Inv-loop μ-loop
-index-of c = c .before .before .before
+index-of c = c .before
 
 abbrev start-of : tie.After-index-all Inv-loop μ-loop → tie.Start Inv-loop μ-loop
 start-of c = c .before .before .before .before .before .before .before .before .before .before .before .before .before .before .before
@@ -80,12 +80,9 @@ index-all-requires c κs =
     let long = length-replicate {A = ℕ} 256 0 in
     (walk-first _ ok, readable-read 64 _ ok .short, refl, refl, refl, refl, length-replicate {A = ℕ} 128 0, long, long, long, long)
 
-few-requires : tie.Need-few-requires Inv-loop μ-loop
-few-requires c κs = search needs
-
 loop-holds : tie.Need-loop-holds Inv-loop μ-loop
 loop-holds c =
-    let pre = (start-of (c .before .before)) .pre in
+    let pre = (start-of c) .pre in
     let long = length-replicate {A = ℕ} 256 0 in (
       (
         refl,
@@ -177,33 +174,30 @@ note-requires c κs =
     let inv = (turn-of (renew-of (join-of (stir-of (marks-of (c .before .before .before .before .before .before .before)))))) .loop .inv .0 in
     (omega (arith, c .before .before .before .before .before .before .before .quick .kept .0, inv .0, (start-of (index-of (turn-of (renew-of (join-of (stir-of (marks-of (c .before .before .before .before .before .before .before)))))))) .pre .0), inv .3, inv .4, inv .5, inv .6)
 
-few-requires-2 : tie.Need-few-requires-2 Inv-loop μ-loop
-few-requires-2 c κs = search needs
-
 loop-less : tie.Need-loop-less Inv-loop μ-loop
 loop-less c =
-    let start = (start-of (index-of (turn-of (renew-of (join-of (stir-of (marks-of (quick-of (c .before .before))))))))) in
+    let start = (start-of (index-of (turn-of (renew-of (join-of (stir-of (marks-of (quick-of c)))))))) in
     let a = start .args in
-    let l = (turn-of (renew-of (join-of (stir-of (marks-of (quick-of (c .before .before))))))) .loop in
+    let l = (turn-of (renew-of (join-of (stir-of (marks-of (quick-of c)))))) .loop in
     let known = start .pre .19 in
     let p = known .0 in
     let base = known .1 .0 in
     let k = known .1 .1 .1 in
     let s = l .inv .1 p base (known .1 .1 .0) (k .0) (k .1) (k .2) (k .3) (k .4) (k .5) in
-    let views = (renew-of (join-of (stir-of (marks-of (quick-of (c .before .before)))))) .renew .ensures .0 base (s .old) (l .all) (classes-below p (a .classes .now) (k .1 .names)) (s .behind) in
-    let more = (quick-of (c .before .before)) .quick .ensures .0 p (a .returned .now) (s .old) (l .t) (k .0) (k .1) (views .0) (λ r x i. i) (s .held) in
-    adds-left (c .few2 .result) (((renew-of (join-of (stir-of (marks-of (quick-of (c .before .before)))))) .before .before .before .before .before .before .before .before .before .before .before .before .before .before .before) .loop-test .taken) (more .0)
+    let views = (renew-of (join-of (stir-of (marks-of (quick-of c))))) .renew .ensures .0 base (s .old) (l .all) (classes-below p (a .classes .now) (k .1 .names)) (s .behind) in
+    let more = (quick-of c) .quick .ensures .0 p (a .returned .now) (s .old) (l .t) (k .0) (k .1) (views .0) (λ r x i. i) (s .held) in
+    adds-left (((renew-of (join-of (stir-of (marks-of (quick-of c))))) .before .before .before .before .before .before .before .before .before .before .before .before .before .before .before) .loop-test .taken) (more .0)
 
 loop-again : tie.Need-loop-again Inv-loop μ-loop
 loop-again c =
-    let a = (start-of (index-of (turn-of (renew-of (join-of (stir-of (marks-of (quick-of (c .before .before))))))))) .args in
-    let l = (turn-of (renew-of (join-of (stir-of (marks-of (quick-of (c .before .before))))))) .loop in
+    let a = (start-of (index-of (turn-of (renew-of (join-of (stir-of (marks-of (quick-of c)))))))) .args in
+    let l = (turn-of (renew-of (join-of (stir-of (marks-of (quick-of c)))))) .loop in
     let inv = l .inv .0 in
-    let renewed = (renew-of (join-of (stir-of (marks-of (quick-of (c .before .before)))))) .renew .ensures in
+    let renewed = (renew-of (join-of (stir-of (marks-of (quick-of c))))) .renew .ensures in
     let lengths = renewed .1 .1 in
-    let stirred = (stir-of (marks-of (quick-of (c .before .before)))) .stir .ensures in
-    let quick = (quick-of (c .before .before)) .quick in
-    let note = c .before .before .note .ensures in (
+    let stirred = (stir-of (marks-of (quick-of c))) .stir .ensures in
+    let quick = (quick-of c) .quick in
+    let note = c .note .ensures in (
       (
         quick .kept .0 ∙ inv .0,
         quick .ensures .1 .0,
@@ -227,7 +221,7 @@ loop-again c =
         stirred .2,
         stirred .3,
         stirred .4,
-        (marks-of (quick-of (c .before .before))) .mark-all .ensures,
+        (marks-of (quick-of c)) .mark-all .ensures,
       ),
       λ p base old types laid small sizes fulls behind.
           let s = l .inv .1 p base old types laid small sizes fulls behind in
@@ -243,7 +237,7 @@ loop-again c =
             held = more .1;
             behind =
                 behind-quick (views .1 (every 64) (λ m n h i o. every-on 64 m h)) within (noted .0)
-                ((join-of (stir-of (marks-of (quick-of (c .before .before))))) .join .ensures);
+                ((join-of (stir-of (marks-of (quick-of c)))) .join .ensures);
           },
     )
 
@@ -276,7 +270,6 @@ hurry-spec =
     returns
     needs-requires
     index-all-requires
-    few-requires
     loop-holds
     stirred-labels-requires
     renew-requires
@@ -286,7 +279,6 @@ hurry-spec =
     array-read-news
     quick-requires
     note-requires
-    few-requires-2
     loop-less
     loop-again
     same-length

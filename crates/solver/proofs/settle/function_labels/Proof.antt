@@ -1,11 +1,9 @@
 -- The invariant is that the word holds the functions below l. Assumes nothing.
 use borrow.Author.Needs.{needs}
 use mathlib.Core.Path.{_≡_}
-use mathlib.Core.Logic.{_⊎_, inl, inr}
-use Prim.Native.Nat.{ℕ, _-_, _≤_, _<_}
+use mathlib.Core.Logic.{inl, inr}
+use Prim.Native.Nat.{_-_, _≤_}
 use native.Mathlib.Omega.{arith}
-use lib.ListN.{getD}
-use Rattle.words.proofs.Bits.{On}
 use Rattle.solver.proofs.Functions.{Functions, functions-none, functions-on, functions-off}
 use Rattle.solver.proofs.settle.function_labels.Statement.{statement}
 use Rattle.solver.proofs.settle.function_labels.Tie as tie
