@@ -7,5 +7,5 @@ pub mod Passing
 pub mod Returns
 pub mod Parts
 pub mod Same
-pub mod Walk
+pub mod Rests
 pub mod Whole

@@ -2,7 +2,6 @@
 ghost use mathlib.Core.Path.{_≡_};
 ghost use Prim.Native.Nat.{_≤_};
 ghost use lib.ListN.{length};
-ghost use Rattle.layout.specs.Layout.{bodyLength};
 ghost use Rattle.rules.specs.Gap.{Finds};
 ghost use Rattle.format.specs.Reading.{Readable};
 ghost use Rattle.views.specs.Arrays.{programBy, hostRules, passRules};
@@ -12,19 +11,7 @@ use crate::chain::look_chains;
 use crate::chain::look_guest_chain;
 use crate::guest::look_guest;
 use crate::record::look_record;
-use tables::wide;
-
-// The length of the body of a record.
-fn length_of(kind: u8) -> usize
-    ensures { λ r. ⌜ r ≡ bodyLength kind ⌝ }
-{
-    let lengths = layout::lengths();
-    let k = wide(kind);
-    if 27 <= k {
-        return 0;
-    }
-    wide(lengths[k])
-}
+use views::walk::after;
 
 // Every record's rules, one record after the other.
 pub fn look_records<'a>(
@@ -52,8 +39,7 @@ pub fn look_records<'a>(
     let mut best = low;
     let mut at: usize = 0;
     while at < file.len() {
-        let kind = file[at];
-        let n = length_of(kind);
+        let next = after(file, at);
         best = look_record(
             t,
             d,
@@ -70,11 +56,11 @@ pub fn look_records<'a>(
             hurled,
             gaps,
             handed,
-            kind,
-            &file[at + 1..at + 1 + n],
+            file[at],
+            &file[at + 1..next],
             best,
         );
-        at = at + 1 + n;
+        at = next;
     }
     best
 }

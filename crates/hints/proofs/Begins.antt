@@ -10,7 +10,8 @@ use lib.Seq.{getD-set-same, getD-set-other}
 use Rattle.words.specs.Words.{bit, union}
 use Rattle.words.proofs.Laws.{bit-shifted}
 use Rattle.words.proofs.Bits.{On, on-union, single-only, empty-off}
-use Rattle.hints.specs.Walk.{Walk, BeginsFrom, Begins}
+use Rattle.views.specs.Walk.{Walk}
+use Rattle.hints.specs.Begins.{BeginsFrom, Begins}
 
 -- no bits
 pub begins-zero : (file : List ℕ) (half : ℕ) (starts : List ℕ) → starts ≡ replicate 256 0 → BeginsFrom file half starts × (length starts ≡ 256)

@@ -1,3 +1,2 @@
--- The laws of walking over a file. Assumes nothing.
-pub mod Walk
+-- The laws of the bits where records begin. Assumes nothing.
 pub mod Begins

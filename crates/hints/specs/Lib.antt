@@ -1,2 +1,2 @@
 -- What the hints promise.
-pub mod Walk
+pub mod Begins

@@ -5,7 +5,8 @@ ghost use mathlib.Core.Path.{_≡_};
 ghost use mathlib.Core.Logic.{_⊎_};
 ghost use lib.ListN.{length, getD};
 ghost use Rattle.words.specs.Words.{bit};
-ghost use Rattle.hints.specs.Walk.{Walk, BeginsFrom};
+ghost use Rattle.views.specs.Walk.{Walk};
+ghost use Rattle.hints.specs.Begins.{BeginsFrom};
 use tables::wide;
 
 // What makes a record worth a look, for each kind and each byte of its body, as a sum: as a variable, 1 where it grew, 2 where its chains did, 4 where

@@ -1,8 +1,9 @@
 // The index of a whole file, in four parts of 8,192 bytes, since no array is to be longer than 256 words.
-ghost use Prim.Native.Nat.{ℕ, _≤_};
+ghost use Prim.Native.Nat.{_≤_};
 ghost use mathlib.Core.Path.{_≡_};
 ghost use lib.ListN.{length, replicate};
-ghost use Rattle.hints.specs.Walk.{Walk, Begins};
+ghost use Rattle.views.specs.Walk.{Walk};
+ghost use Rattle.hints.specs.Begins.{Begins};
 use crate::index::index;
 use crate::stir::mark;
 

@@ -4,7 +4,8 @@ ghost use mathlib.Core.Path.{_≡_};
 ghost use mathlib.Core.List.{List};
 ghost use lib.ListN.{length};
 ghost use Rattle.words.specs.Words.{bit};
-ghost use Rattle.hints.specs.Walk.{Walk, Begins};
+ghost use Rattle.views.specs.Walk.{Walk};
+ghost use Rattle.hints.specs.Begins.{Begins};
 use tables::wide;
 
 // A sum as a word.

@@ -11,8 +11,8 @@ ghost use Rattle.lookups.specs.Kept.{Stirred, Part, Fulls};
 ghost use Rattle.views.specs.Arrays.{hostRules, passRules};
 ghost use Rattle.views.specs.View.{Laid, View};
 use crate::lines::lines;
-use crate::visit::after;
 use crate::visit::visit;
+use views::walk::after;
 
 // The rules of the records, in the order of the file.
 fn host(

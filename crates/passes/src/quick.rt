@@ -10,11 +10,11 @@ ghost use Rattle.program.specs.Program.{Program};
 ghost use Rattle.lookups.specs.Kept.{Stirred, Part, Fulls};
 ghost use Rattle.views.specs.Arrays.{hostRules, passRules};
 ghost use Rattle.views.specs.View.{Laid, View};
-ghost use Rattle.hints.specs.Walk.{Begins};
+ghost use Rattle.hints.specs.Begins.{Begins};
 use crate::lines::lines;
-use crate::visit::after;
 use crate::visit::visit;
 use hints::seek::seek;
+use views::walk::after;
 
 // The rules of these records.
 fn some(

@@ -1,6 +1,5 @@
 // Between passes: the words kept are brought up to date with the table, with what is new since the last pass, and since the last whole pass.
 ghost use mathlib.Core.Path.{_≡_};
-ghost use mathlib.Core.List.{List};
 ghost use Prim.Native.Nat.{ℕ, _<_, _≤_};
 ghost use lib.ListN.{length, getD};
 ghost use Rattle.words.specs.Words.{bit, union};

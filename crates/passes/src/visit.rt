@@ -1,7 +1,7 @@
 // One record of a file.
 ghost use mathlib.Core.Path.{_≡_};
 ghost use mathlib.Core.List.{List};
-ghost use Prim.Native.Nat.{ℕ, _+_, _<_, _≤_};
+ghost use Prim.Native.Nat.{ℕ, _<_, _≤_};
 ghost use lib.ListN.{length, getD};
 ghost use Rattle.rules.specs.Table.{Table, Within};
 ghost use Rattle.rules.specs.Sweep.{Resumes};
@@ -9,19 +9,9 @@ ghost use Rattle.program.specs.Program.{Program};
 ghost use Rattle.lookups.specs.Kept.{Stirred, Part, Fulls};
 ghost use Rattle.views.specs.Arrays.{recordRule};
 ghost use Rattle.views.specs.View.{Laid, View};
-ghost use Rattle.hints.specs.Walk.{Walk, bodyAt};
-ghost use Rattle.layout.specs.Layout.{bodyLength};
+ghost use Rattle.views.specs.Walk.{Walk, bodyAt};
 use statements::record::statement;
-use tables::wide;
-
-// Where the record after the one at `at` begins.
-pub fn after(file: &[u8], at: usize) -> usize
-    requires { ⌜ Walk (now file) at × (at < length (now file)) × (length (now file) ≤ 32768) ⌝ }
-    ensures { λ r. ⌜ r ≡ at + 1 + bodyLength (getD (now (file .entry)) at 0) ⌝ }
-{
-    let lengths = layout::lengths();
-    at + 1 + wide(lengths[wide(file[at])])
-}
+use views::walk::after;
 
 // The rules of the record at `at`.
 pub fn visit(

@@ -1,7 +1,9 @@
--- Laws of the arrays, of the notes and of words of names. Assumes nothing.
+-- Laws of the arrays, of the notes, of words of names and of walking over the records of a file. Assumes nothing.
 pub mod Words
 pub mod Notes
 pub mod Passing
 pub mod Parents
 pub mod Returns
 pub mod Ranges
+pub mod Walks
+pub mod Hosts

@@ -2,3 +2,4 @@
 pub mod Arrays
 pub mod Range
 pub mod View
+pub mod Walk

@@ -1,3 +1,5 @@
-// What the functions of a pass are given: the arrays of the program, what is known of the table, and the names of keys as words.
+// What the functions of a pass are given: the arrays of the program, what is known of the table, the names of keys as words. And the way
+// from one record of a file to the next.
 
 pub mod names;
+pub mod walk;

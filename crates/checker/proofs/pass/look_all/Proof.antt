@@ -1,7 +1,6 @@
 -- The rules one after the other. Assumes nothing.
 use borrow.Author.Needs.{needs}
 use Rattle.rules.proofs.Find.{finds-both}
-use borrow.Author.Needs.{needs}
 use Rattle.checker.proofs.pass.look_all.Statement.{statement}
 use Rattle.checker.proofs.pass.look_all.Tie as tie
 

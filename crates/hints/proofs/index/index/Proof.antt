@@ -10,8 +10,9 @@ use lib.Dec.{ltb}
 use borrow.Author.Tests.{ltb-true}
 use Rattle.layout.specs.Layout.{bodyLength}
 use Rattle.layout.proofs.Table.{length-at, body-short}
-use Rattle.hints.specs.Walk.{Walk, BeginsFrom}
-use Rattle.hints.proofs.Walk.{walk-known, walk-room, walk-next}
+use Rattle.views.specs.Walk.{Walk}
+use Rattle.views.proofs.Walks.{walk-known, walk-room, walk-next}
+use Rattle.hints.specs.Begins.{BeginsFrom}
 use Rattle.hints.proofs.Begins.{begins-more}
 use Rattle.hints.proofs.index.index.Statement.{statement}
 use Rattle.hints.proofs.index.index.Tie as tie

@@ -1,6 +1,5 @@
 -- The word of the block, in the half that has it. Assumes nothing.
 use borrow.Author.Needs.{needs}
-use native.Mathlib.Omega.{arith}
 use Rattle.hints.proofs.Begins.{begins-low, begins-high}
 use Rattle.hints.proofs.seek.places.Statement.{statement}
 use Rattle.hints.proofs.seek.places.Tie as tie

@@ -5,7 +5,7 @@ use Prim.Native.Nat.{_+_, _-_, _≤_}
 use native.Mathlib.Omega.{arith}
 use lib.ListN.{length, take, drop, length-drop}
 use lib.Seq.{length-take-le}
-use Rattle.hints.proofs.Walk.{walk-known}
+use Rattle.views.proofs.Walks.{walk-known}
 use Rattle.hints.proofs.seek.worth.Statement.{statement}
 use Rattle.hints.proofs.seek.worth.Tie as tie
 

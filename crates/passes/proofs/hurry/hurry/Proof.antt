@@ -13,7 +13,7 @@ use Rattle.lookups.specs.Kept.{Fulls, Sizes}
 use Rattle.program.specs.Program.{Program}
 use Rattle.views.specs.Arrays.{passRules}
 use Rattle.views.specs.View.{Laid}
-use Rattle.hints.proofs.Walk.{walk-first}
+use Rattle.views.proofs.Walks.{walk-first}
 use Rattle.passes.specs.Behind.{Behind}
 use Rattle.views.proofs.Words.{classes-below}
 use Rattle.passes.proofs.Turns.{every, every-on, behind-quick, Hurried}

@@ -1,6 +1,5 @@
 -- A turn for each record: the invariant is that what is left of the file is the records left. Assumes nothing.
-use borrow.Author.Needs.{needs}
-use mathlib.Core.Path.{_≡_, refl, _∙_, sym, subst}
+use mathlib.Core.Path.{_≡_, refl, _∙_}
 use mathlib.Core.List.{List}
 use Prim.Native.Nat.{ℕ, _-_}
 use native.Mathlib.Omega.{arith}
@@ -13,9 +12,10 @@ use Rattle.rules.proofs.Resumes.{within-on}
 use Rattle.format.proofs.File.{readable-read}
 use Rattle.lookups.specs.Kept.{Fulls}
 use Rattle.program.specs.Program.{Program}
-use Rattle.hints.specs.Walk.{Walk}
-use Rattle.hints.proofs.Walk.{walk-first}
-use Rattle.passes.proofs.Walk.{rulesOf, onward, resumes-first, resumes-next, walk-end}
+use Rattle.views.specs.Walk.{Walk}
+use Rattle.views.proofs.Walks.{walk-first, onward}
+use Rattle.views.proofs.Hosts.{rulesOf}
+use Rattle.passes.proofs.Walk.{resumes-first, resumes-next, walk-end}
 use Rattle.passes.proofs.pass.host.Statement.{statement}
 use Rattle.passes.proofs.pass.host.Tie as tie
 

@@ -14,8 +14,8 @@ use Rattle.lookups.specs.Kept.{Fulls}
 use Rattle.program.specs.Program.{Program}
 use Rattle.views.specs.Arrays.{hostRules}
 use Rattle.views.specs.View.{Laid, View}
-use Rattle.hints.specs.Walk.{Walk}
-use Rattle.hints.proofs.Walk.{walk-room}
+use Rattle.views.specs.Walk.{Walk}
+use Rattle.views.proofs.Walks.{walk-room}
 use Rattle.passes.proofs.Walk.{adds-next}
 use Rattle.passes.proofs.quick.some.Statement.{statement}
 use Rattle.passes.proofs.quick.some.Tie as tie

@@ -1,13 +1,6 @@
 -- The bytes from this record's kind to the next record are its body. Assumes nothing.
-use borrow.Author.Needs.{needs}
-use mathlib.Core.Path.{_≡_, sym, ap}
-use mathlib.Core.List.{List}
-use Prim.Native.Nat.{ℕ, _+_, _-_, _≤_}
 use native.Mathlib.Omega.{arith}
-use lib.ListN.{length, getD, take, drop}
-use Rattle.layout.specs.Layout.{bodyLength}
-use Rattle.hints.specs.Walk.{bodyAt}
-use Rattle.hints.proofs.Walk.{walk-room, body-range}
+use Rattle.views.proofs.Walks.{walk-room, body-range, slice-body}
 use Rattle.passes.proofs.visit.visit.Statement.{statement}
 use Rattle.passes.proofs.visit.visit.Tie as tie
 
@@ -31,17 +24,12 @@ part-statement-end c =
     let pre = c .before .before .before .before .before .before .before .pre in
     omega (arith, c .before .before .before .before .after .ensures, walk-room (pre .1) (pre .2))
 
-slice : (file : List ℕ) (at next : ℕ) → next ≡ at + 1 + bodyLength (getD file at 0) → take (next - (at + 1)) (drop (at + 1) file) ≡ bodyAt file at
-slice file at next e =
-    let n : next - (at + 1) ≡ bodyLength (getD file at 0) = omega (arith, e) in
-    ap (λ (k : ℕ). take k (drop (at + 1) file)) n
-
 statement-requires : tie.Need-statement-requires
 statement-requires c κs =
     let start = c .before .before .before .before .before .before .before .before in
     let a = start .args in
     let pre = start .pre in
-    (pre .0, rw (slice (a .file .now) (a .at) _ (c .before .before .before .before .before .after .ensures)) (body-range (pre .1) (pre .2)), pre .4, pre .5, pre .6, pre .7, pre .8, pre .9, pre .10, pre .11)
+    (pre .0, rw (slice-body (a .file .now) (a .at) _ (c .before .before .before .before .before .after .ensures)) (body-range (pre .1) (pre .2)), pre .4, pre .5, pre .6, pre .7, pre .8, pre .9, pre .10, pre .11)
 
 same-length : tie.Need-same-length
 same-length c = c .before .before .statement .kept .0
@@ -50,7 +38,7 @@ returns : tie.Need-returns
 returns c =
     let a = c .before .before .before .before .before .before .before .before .before .before .before .args in
     let s = c .before .before .statement .ensures in
-    (λ p returned old new l v within f. rw (← slice (a .file .now) (a .at) _ (c .before .before .before .before .before .before .before .before .after .ensures)) (s .0 p returned old new l v within f), s .1)
+    (λ p returned old new l v within f. rw (← slice-body (a .file .now) (a .at) _ (c .before .before .before .before .before .before .before .before .after .ensures)) (s .0 p returned old new l v within f), s .1)
 
 pub visit-spec : {M : Type 1} → statement M
 visit-spec =

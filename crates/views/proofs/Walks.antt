@@ -5,7 +5,7 @@ use Prim.Native.Nat.{ℕ, suc, _+_, _-_, _≤_, _<_}
 use native.Mathlib.Numerals.{add-one}
 use native.Mathlib.Decide.{decLt}
 use native.Mathlib.Omega.{arith}
-use lib.ListN.{length, getD, take, drop, length-drop, length-append}
+use lib.ListN.{length, getD, take, drop, length-drop, length-append, drop-of-length-le}
 use lib.Seq.{drop-cons, drop-drop, take-at, drop-at}
 use Rattle.layout.specs.Layout.{bodyLength}
 use Rattle.layout.proofs.Table.{no-kind}
@@ -14,9 +14,9 @@ use Rattle.format.specs.Reading.{Reading, readFile, Readable, written, position
 use Rattle.format.proofs.File.{Read, readable-read, read-is}
 use Rattle.format.proofs.Ready.{Made}
 use Rattle.format.proofs.Readable.{readable-ready}
 use Rattle.views.specs.Range.{InRange}
+use Rattle.views.specs.Walk.{Sound, AllSound, Walk, bodyAt}
 use Rattle.views.proofs.Ranges.{fits-in-range}
-use Rattle.hints.specs.Walk.{Sound, AllSound, Walk, bodyAt}
 
 all-sound : (at : ℕ) (rs : List Record) → ((a : ℕ) (r : Record) → List·Memᴰ (a, r) (positioned at rs) → Sound r) → AllSound rs
 unfolding positioned
@@ -111,3 +111,29 @@ module _ {file : List ℕ} {at : ℕ} (w : Walk file at) (h : at < length file) 
     pub next-done : walk-next .done ≡ w .done ++ (here .front ∷ [])
     unfolding walk-next
     next-done = refl
+
+    pub next-rest : walk-next .rest ≡ here .others
+    unfolding walk-next
+    next-rest = refl
+
+  -- after the record here
+  abbrev pub onward : Walk file (at + 1 + bodyLength (getD file at 0))
+  onward = walk-next (bodyLength (getD file at 0)) refl
+
+-- at the end of the file no records are left
+pub rest-end : {file : List ℕ} {at : ℕ} (w : Walk file at) → length file ≤ at → w .rest ≡ []
+unfolding written
+rest-end {file} w h = go (w .rest) (sym (drop-of-length-le file h) ∙ w .bytes)
+  where
+    none : (r : Record) (rs : List Record) → [] ≡ written (r ∷ rs) → ⊥
+    none r rs e = omega (arith, ap length e)
+
+    go : (rs : List Record) → [] ≡ written rs → rs ≡ []
+    go [] e = refl
+    go (r ∷ rs) e = absurd (none r rs e)
+
+-- the bytes from a record's kind to the next record are its body
+pub slice-body : (file : List ℕ) (at next : ℕ) → next ≡ at + 1 + bodyLength (getD file at 0) → take (next - (at + 1)) (drop (at + 1) file) ≡ bodyAt file at
+slice-body file at next e =
+    let n : next - (at + 1) ≡ bodyLength (getD file at 0) = omega (arith, e) in
+    ap (λ (k : ℕ). take k (drop (at + 1) file)) n

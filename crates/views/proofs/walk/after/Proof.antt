@@ -7,9 +7,9 @@ use native.Mathlib.Omega.{arith}
 use lib.ListN.{getD}
 use Rattle.layout.specs.Layout.{bodyLength}
 use Rattle.layout.proofs.Table.{length-at}
-use Rattle.hints.proofs.Walk.{walk-known, walk-room}
-use Rattle.passes.proofs.visit.after.Statement.{statement}
-use Rattle.passes.proofs.visit.after.Tie as tie
+use Rattle.views.proofs.Walks.{walk-known, walk-room}
+use Rattle.views.proofs.walk.after.Statement.{statement}
+use Rattle.views.proofs.walk.after.Tie as tie
 
 lengths-requires : tie.Need-lengths-requires
 lengths-requires c κs = search needs

@@ -1,13 +1,12 @@
 -- Where records begin: at such a position what is left of a readable file is the records left, written out. Assumes nothing.
 use mathlib.Core.Path.{_≡_}
 use mathlib.Core.List.{List, [], _∷_, _++_}
-use Prim.Native.Nat.{ℕ, _+_, _*_, _≤_, _<_}
+use Prim.Native.Nat.{ℕ, _+_, _≤_, _<_}
 use lib.ListN.{length, getD, take, drop}
-use Rattle.words.specs.Words.{bit}
 use Rattle.layout.specs.Layout.{bodyLength}
 use Rattle.format.specs.Records.{Record}
 use Rattle.format.specs.Reading.{readFile, written, positioned}
 use Rattle.views.specs.Range.{InRange}
 
 -- every record's kind is known, and its bytes are in their ranges
 abbrev pub Sound : Record → Type 0
@@ -29,11 +28,3 @@ pub record Walk (file : List ℕ) (at : ℕ) : Type 0 where
 -- the body of the record at position `at`
 abbrev pub bodyAt : List ℕ → ℕ → List ℕ
 bodyAt file at = take (bodyLength (getD file at 0)) (drop (at + 1) file)
-
--- from position `half` on a record begins where a bit of these 256 words is, one bit for each byte
-abbrev pub BeginsFrom : List ℕ → ℕ → List ℕ → Type 0
-BeginsFrom file half starts = (b i : ℕ) → b < 256 → bit (getD starts b 0) i ≡ 1 → Walk file (half + (64 * b + i))
-
--- the same for all 32,768 bytes that a file can have
-abbrev pub Begins : List ℕ → List ℕ → List ℕ → Type 0
-Begins file low high = BeginsFrom file 0 low × BeginsFrom file 16384 high
