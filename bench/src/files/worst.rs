@@ -1,6 +1,6 @@
 //! The shapes of courses: through which rows the runners pass.
 
-use super::course::{Course, FIRST, FRESH, SELF, SINK};
+use super::course::{Course, FIRST, FRESH, PASSED, SELF, SINK};
 use super::filler::Filler;
 
 #[derive(Clone, Copy, PartialEq, Eq, Debug)]
@@ -17,12 +17,22 @@ pub enum Shape {
     Calls,
     /// S to S by what a function returns.
     Returns,
+    /// S to ninety rows of H at once by a store under a class of names, and back to S by a load.
+    Classes,
     /// As many rows as there are: S to H or T, and back to S.
     Longest,
 }
 
-pub const SHAPES: [Shape; 7] =
-    [Shape::Copies, Shape::Properties, Shape::Prototypes, Shape::Throws, Shape::Calls, Shape::Returns, Shape::Longest];
+pub const SHAPES: [Shape; 8] = [
+    Shape::Copies,
+    Shape::Properties,
+    Shape::Prototypes,
+    Shape::Throws,
+    Shape::Calls,
+    Shape::Returns,
+    Shape::Classes,
+    Shape::Longest,
+];
 
 /// A full file with a course of the shape; whatever variables the shape has no use for are passed by copies.
 pub fn worst(shape: Shape, filler: Filler, watching: bool, seed: u64) -> Vec<u8> {
@@ -34,6 +44,7 @@ pub fn worst(shape: Shape, filler: Filler, watching: bool, seed: u64) -> Vec<u8>
         Shape::Throws => throws(&mut course),
         Shape::Calls => calls(&mut course),
         Shape::Returns => returns(&mut course),
+        Shape::Classes => classes(&mut course),
         Shape::Longest => properties(&mut course, 56),
     }
     while course.left() > 0 {
@@ -121,5 +132,17 @@ fn returns(course: &mut Course) {
         course.called.push((f, [SINK; 6]));
         course.at_start(|w| w.give_back(f, from));
         course.link(|w| w.call(0, to, holder, 0, [0; 6]));
+    }
+}
+
+/// Through all passed properties of three functions at once.
+fn classes(course: &mut Course) {
+    course.closed = (FIRST..62).collect();
+    for three in (FIRST..62).collect::<Vec<u8>>().chunks(3) {
+        let holder = course.variable();
+        three.iter().for_each(|&f| course.at_start(|w| w.held(holder, f)));
+        let (from, to) = course.step();
+        course.link(|w| w.store(0, holder, PASSED, from));
+        course.link(|w| w.load(0, to, holder, 0, FRESH));
     }
 }
