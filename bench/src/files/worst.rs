@@ -19,11 +19,13 @@ pub enum Shape {
     Returns,
     /// S to ninety rows of H at once by a store under a class of names, and back to S by a load.
     Classes,
+    /// As `Properties`, but the load looks from variable 0 along the chain of its w.
+    Chains,
     /// As many rows as there are: S to H or T, and back to S.
     Longest,
 }
 
-pub const SHAPES: [Shape; 8] = [
+pub const SHAPES: [Shape; 9] = [
     Shape::Copies,
     Shape::Properties,
     Shape::Prototypes,
@@ -31,6 +33,7 @@ pub const SHAPES: [Shape; 8] = [
     Shape::Calls,
     Shape::Returns,
     Shape::Classes,
+    Shape::Chains,
     Shape::Longest,
 ];
 
@@ -39,13 +42,14 @@ pub fn worst(shape: Shape, filler: Filler, watching: bool, seed: u64) -> Vec<u8>
     let mut course = Course::new(seed);
     match shape {
         Shape::Copies => {}
-        Shape::Properties => properties(&mut course, 0),
+        Shape::Properties => properties(&mut course, 0, false),
         Shape::Prototypes => prototypes(&mut course),
         Shape::Throws => throws(&mut course),
         Shape::Calls => calls(&mut course),
         Shape::Returns => returns(&mut course),
         Shape::Classes => classes(&mut course),
-        Shape::Longest => properties(&mut course, 56),
+        Shape::Chains => properties(&mut course, 0, true),
+        Shape::Longest => properties(&mut course, 56, false),
     }
     while course.left() > 0 {
         let (from, to) = course.step();
@@ -54,8 +58,9 @@ pub fn worst(shape: Shape, filler: Filler, watching: bool, seed: u64) -> Vec<u8>
     course.finish(filler, watching)
 }
 
-/// Through properties of few functions, thirty of each; `thrown` of the steps by throw and catch in a scope of their own.
-fn properties(course: &mut Course, thrown: usize) {
+/// Through properties of few labels, thirty of each; `thrown` of the steps by throw and catch in a scope of their own. They are looked up in the
+/// functions that these labels are, or in variable 0 with a label, then plain, as w.
+fn properties(course: &mut Course, thrown: usize, by_chain: bool) {
     let mut steps = vec![None; thrown];
     for (i, step) in steps.iter_mut().enumerate() {
         *step = Some(FIRST + i as u8);
@@ -63,6 +68,9 @@ fn properties(course: &mut Course, thrown: usize) {
     let boxes = (course.left() - thrown).div_ceil(31);
     let holders: Vec<u8> = (0..boxes as u8).map(|i| course.holder(63 - i)).collect();
     course.closed = (0..boxes as u8).map(|i| 63 - i).collect();
+    if by_chain {
+        course.plain = course.closed.clone();
+    }
     steps.resize(course.left(), None);
     course.r.shuffle(&mut steps);
     let mut used = 0;
@@ -73,8 +81,9 @@ fn properties(course: &mut Course, thrown: usize) {
             course.link(|w| w.catch(k, to));
         } else {
             let (object, name) = (holders[used / 30], (used % 30) as u8);
+            let (from_object, fresh) = if by_chain { (0, 63 - (used / 30) as u8) } else { (object, FRESH) };
             course.link(|w| w.store(0, object, name, from));
-            course.link(|w| w.load(0, to, object, name, FRESH));
+            course.link(|w| w.load(0, to, from_object, name, fresh));
             used += 1;
         }
     }

@@ -38,7 +38,7 @@ pub begins-more : {file : List ℕ} {at : ℕ} (half : ℕ) (starts later : List
 begins-more {file} {at} half starts later w begins only b i h o =
     ⊎-elim (λ e. subst (λ (k : ℕ). Walk file k) (sym e) w) (λ a. begins b i h a) (only b i h o)
 
--- the word of a block, of the low half or the high one
+-- the word of 64 bytes, of the low half or the high one
 pub begins-low : {file : List ℕ} (low high : List ℕ) (b i : ℕ) → Begins file low high → b < 256 → bit (getD low b 0) i ≡ 1 → Walk file (64 * b + i)
 begins-low {file} low high b i begins h o =
     let e : 0 + (64 * b + i) ≡ 64 * b + i = omega arith in
@@ -50,7 +50,7 @@ begins-high {file} low high b i begins g h o =
     let e : 16384 + (64 * (b - 256) + i) ≡ 64 * b + i = omega arith in
     subst (λ (k : ℕ). Walk file k) e (begins .1 (b - 256) i (omega arith) o)
 
--- the part of a block's word from position `at` on, counted from there
+-- the part of such a word from position `at` on, counted from there
 pub begins-from : {file : List ℕ} (word at i : ℕ) → ((j : ℕ) → bit word j ≡ 1 → Walk file (64 * (at / 64) + j)) → bit (word / 2 ^ (at % 64)) i ≡ 1
     → Walk file (at + i)
 begins-from {file} word at i each o =

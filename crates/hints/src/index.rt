@@ -11,7 +11,8 @@ use tables::wide;
 
 // What makes a record worth a look, for each kind and each byte of its body, as a sum: as a variable, 1 where it grew, 2 where its chains did, 4 where
 // a prim finds or throws more, 8 where its functions hand back or throw more, 16 where a property under name 3 on its chains grew, 32 where any did; as a
-// label, 64 where T grew, 128 where P did; as a key, 256 where a property of label 0 under it grew, 512 where any did.
+// label, 64 where T grew, 128 where P did; as a key, 256 where a property of label 0 under it grew, 512 where any did. A load needs 32 and 512 both. That
+// the bag grew wakes no grant: it happens at most 63 times, and a whole pass sees to it.
 const NEEDS: [[u16; 11]; 27] = [
     [0, 0, 0, 0, 0, 0, 0, 0, 0, 0, 0],
     [0, 0, 0, 0, 0, 0, 0, 0, 0, 0, 0],
@@ -100,6 +101,10 @@ fn note_byte(
     if need == 0 {
         return;
     }
+    // variable 0 holds nothing, but a load from it looks along the chain of its w
+    if (byte == 0) & (need < 34) {
+        return;
+    }
     if 256 <= need {
         note_names(named, names_of_key(classes, byte), part, block);
         return;
@@ -108,8 +113,8 @@ fn note_byte(
     reads[v] = words::join(reads[v], block);
 }
 
-// One position more where a record begins, if `yes`, of the 16,384 from `half` on.
-fn place(yes: bool, starts: &mut [u64; 256], half: usize, at: usize)
+// Sets the bit of position `at` where `yes`; a position outside the 16,384 from `half` on is left out.
+fn set_start(yes: bool, starts: &mut [u64; 256], half: usize, at: usize)
     requires { ⌜ length (now starts) ≡ 256 ⌝ }
     ensures { λ _. ⌜ ((b i : ℕ) → b < 256 → bit (getD (now (starts .exit)) b 0) i ≡ 1 → (half + (64 * b + i) ≡ at) ⊎ (bit (getD (now (starts .entry)) b 0) i ≡ 1)) ⌝ }
     ensures { λ _. ⌜ length (now (starts .exit)) ≡ 256 ⌝ }
@@ -127,8 +132,8 @@ fn place(yes: bool, starts: &mut [u64; 256], half: usize, at: usize)
     starts[q / 64] = words::join(starts[q / 64], words::single(q % 64));
 }
 
-// The records from `from` on that begin before `end`, where the next of them begins is the answer; `starts` and `loads` are about the positions from `half`
-// on.
+// Enters the records that begin from `from` on and before `end`; the answer is where the next one begins. `starts` and `loads` are about the 16,384
+// positions from `half` on.
 pub fn index(
     file: &[u8],
     classes: &[u64; 8],
@@ -153,8 +158,8 @@ pub fn index(
         let b = at / 128;
         let block = words::single(b % 64);
         let part = b / 64;
-        place(true, starts, half, at);
-        place(kind == 17, loads, half, at);
+        set_start(true, starts, half, at);
+        set_start(kind == 17, loads, half, at);
         let mut j: usize = 0;
         while j < n {
             note_byte(

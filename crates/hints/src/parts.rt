@@ -78,7 +78,7 @@ pub fn index_all(
 // The blocks worth a look, in every part: 0 to 3 those of which all records are, 4 to 7 those of which loads are.
 pub fn mark_all(
     named: &[u64; 128],
-    sums: &[u64; 13],
+    grown: &[u64; 12],
     reads0: &[u64; 256],
     reads1: &[u64; 256],
     reads2: &[u64; 256],
@@ -88,8 +88,8 @@ pub fn mark_all(
     requires { ⌜ (length (now marks) ≡ 8) × (length (now reads0) ≡ 256) × (length (now reads1) ≡ 256) × (length (now reads2) ≡ 256) × (length (now reads3) ≡ 256) ⌝ }
     ensures { λ _. ⌜ length (now (marks .exit)) ≡ 8 ⌝ }
 {
-    mark(reads0, named, sums, 0, marks);
-    mark(reads1, named, sums, 1, marks);
-    mark(reads2, named, sums, 2, marks);
-    mark(reads3, named, sums, 3, marks);
+    mark(reads0, named, grown, 0, marks);
+    mark(reads1, named, grown, 1, marks);
+    mark(reads2, named, grown, 2, marks);
+    mark(reads3, named, grown, 3, marks);
 }

@@ -20,7 +20,7 @@ fn asked(needs: &[u16; 297], roles: &[u64; 256], place: usize, byte: u8) -> u64
     words::meet(roles[wide(byte)], broad(needs[place]))
 }
 
-// Whether S(a) is in the properties of every label of S(x) already, as the words from place `base` on tell.
+// Whether S(a) is in the properties of every label of S(x) that is not built-in already, as the words from place `base` on tell.
 fn stored(t: &[u64], flags: &[u8; 64], meets: &[u64; 256], base: usize, x: usize, a: usize) -> bool
     requires { ⌜ (2432 ≤ length (now t)) × (x < 256) × (a < 256) × (base + 64 ≤ 256) ⌝ }
 {
@@ -38,7 +38,7 @@ fn stored(t: &[u64], flags: &[u8; 64], meets: &[u64; 256], base: usize, x: usize
     all
 }
 
-// The same for a key: of a single name nothing is kept.
+// The same for a key; of a single name nothing is kept, so the answer is no.
 fn stored_under(
     t: &[u64],
     flags: &[u8; 64],
@@ -63,8 +63,33 @@ fn stored_under(
     false
 }
 
-// Whether the record of this kind, whose body is the first of these bytes, is worth a look. A load of what grew in properties is where its variable lacks
-// some of that; a store is not where all is stored.
+// Whether a label on the chain of w is stirred.
+fn stirs(t: &[u64], stirred: u64, w: usize) -> bool
+    requires { ⌜ 2432 ≤ length (now t) ⌝ }
+{
+    if 64 <= w {
+        return true;
+    }
+    words::meet(t[2304 + w], stirred) != 0
+}
+
+// Whether a load of this body may look at a property that grew, on the chains of its object, or of its w where the object is variable 0, and its variable
+// lacks something of what these hold. Variable 0 keeps nothing.
+fn lacks(t: &[u64], roles: &[u64; 256], news: u64, stirred: u64, bytes: &[u8]) -> bool
+    requires { ⌜ (2432 ≤ length (now t)) × (length (now bytes) ≡ 11) ⌝ }
+{
+    let target = wide(bytes[1]);
+    let some = (target != 0) & (words::without(news, t[target]) != 0);
+    let under = words::meet(roles[wide(bytes[3])], 512) != 0;
+    let object = wide(bytes[2]);
+    if object == 0 {
+        return some & (under & stirs(t, stirred, wide(bytes[4])));
+    }
+    some & (under & (words::meet(roles[object], 32) != 0))
+}
+
+// Whether the record of this kind, whose body is the first of these bytes, is worth a look. A load for which only properties grew is so where its variable
+// lacks something of what they hold; a store is not where all is stored already.
 fn wakes(
     t: &[u64],
     flags: &[u8; 64],
@@ -73,6 +98,7 @@ fn wakes(
     needs: &[u16; 297],
     roles: &[u64; 256],
     news: u64,
+    stirred: u64,
     kind: usize,
     bytes: &[u8],
 ) -> bool
@@ -91,6 +117,7 @@ fn wakes(
         words::join(first, second),
         asked(needs, roles, k + 4, bytes[4]),
     );
+    // kinds below 21 read no byte after the fifth
     let all = if kind < 21 {
         short
     } else {
@@ -122,26 +149,15 @@ fn wakes(
             wide(bytes[3]),
         );
     }
+    // 544 = 32 + 512: nothing but properties grew
     if words::without(all, 544) != 0 {
         return true;
     }
-    if all != 544 {
-        return false;
-    }
-    words::without(news, t[wide(bytes[1])]) != 0
+    lacks(t, roles, news, stirred, bytes)
 }
 
-// Whether a load of this body lacks some of what grew in properties that it may look at.
-fn lacks(t: &[u64], roles: &[u64; 256], news: u64, bytes: &[u8]) -> bool
-    requires { ⌜ (2432 ≤ length (now t)) × (length (now bytes) ≡ 11) ⌝ }
-{
-    let some = words::without(news, t[wide(bytes[1])]) != 0;
-    let on = words::meet(roles[wide(bytes[2])], 32) != 0;
-    let under = words::meet(roles[wide(bytes[3])], 512) != 0;
-    some & (on & under)
-}
-
-// Whether the record at `at` is worth a look: any record where `all`, else only a load. At the end of the file every record is.
+// Whether the record at `at` is worth a look: any record where `all`, else only a load. The last records, behind whose kind the file has not eleven bytes,
+// always are.
 fn worth(
     t: &[u64],
     flags: &[u8; 64],
@@ -151,6 +167,7 @@ fn worth(
     needs: &[u16; 297],
     roles: &[u64; 256],
     news: u64,
+    stirred: u64,
     all: bool,
     at: usize,
 ) -> bool
@@ -169,11 +186,12 @@ fn worth(
             needs,
             roles,
             news,
+            stirred,
             wide(file[at]),
             bytes,
         );
     }
-    lacks(t, roles, news, bytes)
+    lacks(t, roles, news, stirred, bytes)
 }
 
 // The first record worth a look of those that begin at the bits of a word, counted from `from`; the end of the file where there is none.
@@ -186,6 +204,7 @@ fn among(
     needs: &[u16; 297],
     roles: &[u64; 256],
     news: u64,
+    stirred: u64,
     all: bool,
     word: u64,
     from: usize,
@@ -205,6 +224,7 @@ fn among(
             needs,
             roles,
             news,
+            stirred,
             all,
             from + l,
         ) {
@@ -281,6 +301,7 @@ pub fn seek(
     needs: &[u16; 297],
     roles: &[u64; 256],
     news: u64,
+    stirred: u64,
     marks: &[u64; 8],
     starts_low: &[u64; 256],
     starts_high: &[u64; 256],
@@ -306,6 +327,7 @@ pub fn seek(
             needs,
             roles,
             news,
+            stirred,
             all,
             words::above(word, at % 64),
             at,

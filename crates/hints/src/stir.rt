@@ -1,10 +1,12 @@
-// What grew, by byte value: what a byte of a body means as a variable, a label or a key, as a sum of the numbers that NEEDS in index.rt goes by.
+// What grew, by byte value: what a byte of a body means as a variable, a label or a key, as a sum of the numbers that NEEDS in index.rt goes by; and the
+// blocks of the file worth a look for it.
 ghost use mathlib.Core.Path.{_≡_};
 ghost use Prim.Native.Nat.{_+_, _<_, _≤_};
 ghost use lib.ListN.{length};
 use lookups::note::noted;
 use tables::gather::gather;
 
+// The number where `yes`, else 0.
 fn part_of(yes: bool, sum: u64) -> u64 {
     if yes { sum } else { 0 }
 }
@@ -26,21 +28,19 @@ fn more(rows: &[u64], set: u64, base: usize, kept: &mut [u64; 256], v: usize) ->
     true
 }
 
-// The properties that grew: 8 their names, 9 those of label 0, 10 what they hold, 11 their labels, 12 the labels with one under name 3.
-fn stir_names(t: &[u64], last: &[u64; 38], sums: &mut [u64; 13])
-    requires { ⌜ (2432 ≤ length (now t)) × (length (now sums) ≡ 13) ⌝ }
-    ensures { λ _. ⌜ length (now (sums .exit)) ≡ 13 ⌝ }
+// In `grown`, of the properties that grew: 8 their names, 9 those of label 0, 10 what they hold, 11 the labels with one under name 3.
+fn stir_names(t: &[u64], last: &[u64; 38], grown: &mut [u64; 12])
+    requires { ⌜ (2432 ≤ length (now t)) × (length (now grown) ≡ 12) ⌝ }
+    ensures { λ _. ⌜ length (now (grown .exit)) ≡ 12 ⌝ }
 {
     let mut names: u64 = 0;
     let mut news: u64 = 0;
-    let mut labels: u64 = 0;
     let mut thirds: u64 = 0;
     let mut m: usize = 0;
     while m < 64 {
         let some = words::meet(words::above(last[4 + m / 2], 32 * (m % 2)), 4294967295);
         if some != 0 {
             names = words::join(names, some);
-            labels = words::join(labels, words::single(m));
             news = words::join(news, gather(t, some, 256 + 32 * m));
             if words::has(some, 3) == 1 {
                 thirds = words::join(thirds, words::single(m));
@@ -48,15 +48,14 @@ fn stir_names(t: &[u64], last: &[u64; 38], sums: &mut [u64; 13])
         }
         m += 1;
     }
-    sums[8] = names;
-    sums[9] = words::meet(last[4], 4294967295);
-    sums[10] = news;
-    sums[11] = labels;
-    sums[12] = thirds;
+    grown[8] = names;
+    grown[9] = words::meet(last[4], 4294967295);
+    grown[10] = news;
+    grown[11] = thirds;
 }
 
 // What byte v means as a label and as a key.
-fn stir_byte(classes: &[u64; 8], last: &[u64; 38], sums: &[u64; 13], v: usize) -> u64
+fn stir_byte(classes: &[u64; 8], last: &[u64; 38], grown: &[u64; 12], v: usize) -> u64
     requires { ⌜ v < 256 ⌝ }
 {
     if v < 64 {
@@ -65,25 +64,28 @@ fn stir_byte(classes: &[u64; 8], last: &[u64; 38], sums: &[u64; 13], v: usize) -
             part_of(words::has(last[36], v) == 1, 128),
         );
         let key = words::join(
-            part_of(words::has(sums[9], v) == 1, 256),
-            part_of(words::has(sums[8], v) == 1, 512),
+            part_of(words::has(grown[9], v) == 1, 256),
+            part_of(words::has(grown[8], v) == 1, 512),
         );
         return words::join(label, key);
     }
     if 128 <= v {
         if v < 136 {
-            return part_of(words::meet(classes[v - 128], sums[8]) != 0, 512);
+            return part_of(words::meet(classes[v - 128], grown[8]) != 0, 512);
         }
     }
     0
 }
 
-// Every byte's sum; in `sums`, 0 to 3 the bytes that are worth a look by themselves, 4 to 7 the variables on whose chains a property grew.
+// Every byte's sum; in `grown`, 0 to 3 the bytes that are worth a look by themselves, 4 to 7 the variables on whose chains a property grew, and variable 0.
+// `handed_by`, `thrown_by` and `thrown_in` have for each variable what its functions were seen to hand back and to throw, and what the methods that a prim
+// finds were seen to throw.
 pub fn stir(
     t: &[u64],
     functions: u64,
     classes: &[u64; 8],
     last: &[u64; 38],
+    stirred: u64,
     chains: &[u64; 256],
     fresh: &[u64; 256],
     methods: &[u64; 256],
@@ -94,16 +96,15 @@ pub fn stir(
     thrown_by: &mut [u64; 256],
     thrown_in: &mut [u64; 256],
     roles: &mut [u64; 256],
-    sums: &mut [u64; 13],
+    grown: &mut [u64; 12],
 )
-    requires { ⌜ (2432 ≤ length (now t)) × (length (now handed) ≡ 64) × (length (now «handed_by») ≡ 256) × (length (now «thrown_by») ≡ 256) × (length (now «thrown_in») ≡ 256) × (length (now roles) ≡ 256) × (length (now sums) ≡ 13) ⌝ }
-    ensures { λ _. ⌜ (length (now («handed_by» .exit)) ≡ 256) × (length (now («thrown_by» .exit)) ≡ 256) × (length (now («thrown_in» .exit)) ≡ 256) × (length (now (roles .exit)) ≡ 256) × (length (now (sums .exit)) ≡ 13) ⌝ }
+    requires { ⌜ (2432 ≤ length (now t)) × (length (now handed) ≡ 64) × (length (now «handed_by») ≡ 256) × (length (now «thrown_by») ≡ 256) × (length (now «thrown_in») ≡ 256) × (length (now roles) ≡ 256) × (length (now grown) ≡ 12) ⌝ }
+    ensures { λ _. ⌜ (length (now («handed_by» .exit)) ≡ 256) × (length (now («thrown_by» .exit)) ≡ 256) × (length (now («thrown_in» .exit)) ≡ 256) × (length (now (roles .exit)) ≡ 256) × (length (now (grown .exit)) ≡ 12) ⌝ }
 {
-    stir_names(t, last, sums);
+    stir_names(t, last, grown);
     let threw = words::meet(functions, last[37]);
     let gave = words::meet(functions, stale);
-    let labels = sums[11];
-    let thirds = sums[12];
+    let thirds = grown[11];
     let mut word: u64 = 0;
     let mut objects: u64 = 0;
     let mut v: usize = 0;
@@ -113,23 +114,23 @@ pub fn stir(
         let a = more(handed, words::meet(held, gave), 0, handed_by, v);
         let b = more(t, words::meet(held, threw), 2368, thrown_by, v);
         let c = more(t, words::meet(methods[v], threw), 2368, thrown_in, v);
-        let grown = words::join(part_of(noted(last, v), 1), part_of(fresh[v] != 0, 2));
+        let held_more = words::join(part_of(noted(last, v), 1), part_of(fresh[v] != 0, 2));
         let found = words::join(
             part_of(c | (added[v] != 0), 4),
             part_of(words::meet(on, thirds) != 0, 16),
         );
         let alone = words::join(
-            words::join(grown, part_of(a | b, 8)),
-            words::join(found, stir_byte(classes, last, sums, v)),
+            words::join(held_more, part_of(a | b, 8)),
+            words::join(found, stir_byte(classes, last, grown, v)),
         );
-        let object = words::meet(on, labels) != 0;
+        let object = (v == 0) | (words::meet(on, stirred) != 0);
         let bit = words::single(v % 64);
         roles[v] = words::join(alone, part_of(object, 32));
         word = words::join(word, part_of(words::meet(alone, 255) != 0, bit));
         objects = words::join(objects, part_of(object, bit));
         if v % 64 == 63 {
-            sums[v / 64] = word;
-            sums[4 + v / 64] = objects;
+            grown[v / 64] = word;
+            grown[4 + v / 64] = objects;
             word = 0;
             objects = 0;
         }
@@ -138,13 +139,13 @@ pub fn stir(
 }
 
 // The blocks in which a byte of the four words from place k on is read.
-fn reading(reads: &[u64; 256], sums: &[u64; 13], k: usize) -> u64
+fn reading(reads: &[u64; 256], grown: &[u64; 12], k: usize) -> u64
     requires { ⌜ (k ≤ 4) × (length (now reads) ≡ 256) ⌝ }
 {
-    let first = gather(reads, sums[k], 0);
-    let second = gather(reads, sums[k + 1], 64);
-    let third = gather(reads, sums[k + 2], 128);
-    let fourth = gather(reads, sums[k + 3], 192);
+    let first = gather(reads, grown[k], 0);
+    let second = gather(reads, grown[k + 1], 64);
+    let third = gather(reads, grown[k + 2], 128);
+    let fourth = gather(reads, grown[k + 3], 192);
     words::join(words::join(first, second), words::join(third, fourth))
 }
 
@@ -164,27 +165,27 @@ fn naming(named: &[u64; 128], names: u64, part: usize) -> u64
 }
 
 // The blocks in which a load may look at a property that grew.
-fn looking(reads: &[u64; 256], named: &[u64; 128], sums: &[u64; 13], part: usize) -> u64
+fn looking(reads: &[u64; 256], named: &[u64; 128], grown: &[u64; 12], part: usize) -> u64
     requires { ⌜ (part < 4) × (length (now reads) ≡ 256) ⌝ }
 {
-    let names = sums[8];
+    let names = grown[8];
     if names == 0 {
         return 0;
     }
-    words::meet(reading(reads, sums, 4), naming(named, names, part))
+    words::meet(reading(reads, grown, 4), naming(named, names, part))
 }
 
 // The blocks worth a look, of the 64 that `reads` is about: those of which all records are, and those of which the loads are.
 pub fn mark(
     reads: &[u64; 256],
     named: &[u64; 128],
-    sums: &[u64; 13],
+    grown: &[u64; 12],
     part: usize,
     marks: &mut [u64; 8],
 )
     requires { ⌜ (part < 4) × (length (now reads) ≡ 256) × (length (now marks) ≡ 8) ⌝ }
     ensures { λ _. ⌜ length (now (marks .exit)) ≡ 8 ⌝ }
 {
-    marks[part] = words::join(reading(reads, sums, 0), naming(named, sums[9], part));
-    marks[4 + part] = looking(reads, named, sums, part);
+    marks[part] = words::join(reading(reads, grown, 0), naming(named, grown[9], part));
+    marks[4 + part] = looking(reads, named, grown, part);
 }

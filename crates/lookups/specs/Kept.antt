@@ -1,5 +1,5 @@
--- What a pass goes by, so that it can pass over what was drawn before. `old` is the table at the start of the last pass, `new` the one at the start of
--- this pass; all that the rules draw from `old` is in the table already. Rows that did not grow from `old` to `new` are not noted; for each variable and
+-- What a pass goes by, so that it can pass over what was drawn before. `old` is the table at the start of an earlier pass, `new` the one at the start of
+-- this pass; where all that the rules draw from `old` is in the table already, what did not grow may be passed over. Rows that did not grow from `old` to `new` are not noted; for each variable and
 -- each function a word is kept of what the rules look up through it, and which part of that is fresh; for each label, the unions of its properties under
 -- the names of each class, and the labels that all these properties hold. Assumes nothing.
 use mathlib.Core.Path.{_≡_}

@@ -19,8 +19,7 @@ use hints::stir::stir;
 use lookups::look::stirred_labels;
 use lookups::note::note;
 
-// Quick passes, `go` says whether any, while each adds something. The answer is the functions that hand back more since the last whole
-// pass.
+// Quick passes as long as each adds something; none unless `go`. The answer is the functions that hand back more than at the last whole pass.
 pub fn hurry(
     go: bool,
     t: &mut [u64],
@@ -85,7 +84,7 @@ pub fn hurry(
     let mut thrown_by = [0u64; 256];
     let mut thrown_in = [0u64; 256];
     let mut roles = [0u64; 256];
-    let mut sums = [0u64; 13];
+    let mut grown = [0u64; 12];
     let mut marks = [0u64; 8];
     let mut all = all_stale;
     let mut again = true;
@@ -114,6 +113,7 @@ pub fn hurry(
             functions,
             classes,
             last,
+            stirred,
             chain_words,
             fresh,
             methods,
@@ -124,18 +124,18 @@ pub fn hurry(
             &mut thrown_by,
             &mut thrown_in,
             &mut roles,
-            &mut sums,
+            &mut grown,
         );
         mark_all(
             &named,
-            &sums,
+            &grown,
             &reads0,
             &reads1,
             &reads2,
             &reads3,
             &mut marks,
         );
-        let news = sums[10];
+        let news = grown[10];
         again = quick(
             t,
             lower_meets,

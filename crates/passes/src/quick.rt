@@ -16,7 +16,7 @@ use crate::visit::visit;
 use hints::seek::seek;
 use views::walk::after;
 
-// The rules of these records.
+// The rules of the records that the hints point at.
 fn some(
     t: &mut [u64],
     lower_meets: &mut [u64; 256],
@@ -59,6 +59,7 @@ fn some(
         needs,
         roles,
         news,
+        stirred,
         marks,
         starts_low,
         starts_high,
@@ -98,6 +99,7 @@ fn some(
             needs,
             roles,
             news,
+            stirred,
             marks,
             starts_low,
             starts_high,

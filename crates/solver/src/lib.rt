@@ -1,4 +1,5 @@
-// The least table of a readable file, computed in place on the table that is lent: passes over the rules until one adds nothing.
+// The least table of a readable file, computed in place on the table that is lent: whole passes over the rules until one adds nothing, with
+// quick ones between them.
 ghost use mathlib.Core.Path.{_≡_};
 ghost use mathlib.Core.List.{_++_};
 ghost use Prim.Native.Nat.{_≤_};

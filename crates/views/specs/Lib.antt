@@ -1,4 +1,4 @@
--- What the functions of a pass are given.
+-- What the functions of a pass and of the check are given, and where records begin.
 pub mod Arrays
 pub mod Range
 pub mod View

@@ -77,11 +77,11 @@ wide-requires-2 c κs = search needs
 single-requires : tie.Need-single-requires Inv-loop2 μ-loop2 Inv-loop μ-loop
 single-requires c κs = search needs
 
-place-requires : tie.Need-place-requires Inv-loop2 μ-loop2 Inv-loop μ-loop
-place-requires c κs = c .before .before .before .before .before .before .loop .inv .1
+set-start-requires : tie.Need-set-start-requires Inv-loop2 μ-loop2 Inv-loop μ-loop
+set-start-requires c κs = c .before .before .before .before .before .before .loop .inv .1
 
-place-requires-2 : tie.Need-place-requires-2 Inv-loop2 μ-loop2 Inv-loop μ-loop
-place-requires-2 c κs = c .before .before .before .before .before .before .before .before .loop .inv .2
+set-start-requires-2 : tie.Need-set-start-requires-2 Inv-loop2 μ-loop2 Inv-loop μ-loop
+set-start-requires-2 c κs = c .before .before .before .before .before .before .before .before .loop .inv .2
 
 loop2-holds : tie.Need-loop2-holds Inv-loop2 μ-loop2 Inv-loop μ-loop
 loop2-holds c = let i = c .before .before .before .before .before .before .before .before .before .loop .inv in (omega arith, i .3, i .4)
@@ -132,16 +132,16 @@ loop-again : tie.Need-loop-again Inv-loop2 μ-loop2 Inv-loop μ-loop
 loop-again c =
     let i = c .before .before .before .before .before .before .before .before .before .before .before .loop .inv in
     let noted = c .before .loop2 .inv in
-    let starts = c .before .before .before .before .place .ensures in
-    let loads = c .before .before .place2 .ensures in
+    let starts = c .before .before .before .before .set-start .ensures in
+    let loads = c .before .before .set-start2 .ensures in
     let half = c .before .before .before .before .before .before .before .before .before .before .before .before .before .before .args .half in (
       onward (c .before .before .before .before .before .before .before),
       starts .1,
       loads .1,
       noted .1,
       noted .2,
-      begins-more half (c .before .before .before .before .before .before .before .before .before .before .before .loop .starts) (c .before .before .before .before .place .last .1 .0) (i .0) (i .5) (starts .0),
-      begins-more half (c .before .before .before .before .before .before .before .before .before .before .before .loop .loads) (c .before .before .place2 .last .1 .0) (i .0) (i .6) (loads .0),
+      begins-more half (c .before .before .before .before .before .before .before .before .before .before .before .loop .starts) (c .before .before .before .before .set-start .last .1 .0) (i .0) (i .5) (starts .0),
+      begins-more half (c .before .before .before .before .before .before .before .before .before .before .before .loop .loads) (c .before .before .set-start2 .last .1 .0) (i .0) (i .6) (loads .0),
     )
 
 returns : tie.Need-returns Inv-loop2 μ-loop2 Inv-loop μ-loop
@@ -162,8 +162,8 @@ index-spec =
     array-read-wide
     wide-requires-2
     single-requires
-    place-requires
-    place-requires-2
+    set-start-requires
+    set-start-requires-2
     loop2-holds
     mul-note-byte
     add-note-byte

@@ -7,10 +7,10 @@ use Rattle.hints.proofs.seek.among.Statement.{statement}
 use Rattle.hints.proofs.seek.among.Tie as tie
 
 abbrev Inv-loop : tie.InvT-loop
-Inv-loop t flags lower-meets upper-meets file needs roles news all word from rest₀ l₀ rest l = Ahead word l rest
+Inv-loop t flags lower-meets upper-meets file needs roles news stirred all word from rest₀ l₀ rest l = Ahead word l rest
 
 abbrev μ-loop : tie.MeasureT-loop
-μ-loop t flags lower-meets upper-meets file needs roles news all word from rest₀ l₀ rest l = 64 - l
+μ-loop t flags lower-meets upper-meets file needs roles news stirred all word from rest₀ l₀ rest l = 64 - l
 
 first-requires : tie.Need-first-requires Inv-loop μ-loop
 first-requires c κs = search needs

@@ -1,4 +1,4 @@
--- The word of the block, in the half that has it. Assumes nothing.
+-- The word of the 64 bytes, in the half that has it. Assumes nothing.
 use borrow.Author.Needs.{needs}
 use Rattle.hints.proofs.Begins.{begins-low, begins-high}
 use Rattle.hints.proofs.seek.places.Statement.{statement}

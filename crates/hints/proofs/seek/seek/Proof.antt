@@ -9,10 +9,10 @@ use Rattle.hints.proofs.seek.seek.Statement.{statement}
 use Rattle.hints.proofs.seek.seek.Tie as tie
 
 abbrev Inv-loop : tie.InvT-loop
-Inv-loop t flags lower-meets upper-meets file needs roles news marks starts-low starts-high loads-low loads-high from at₀ at = from ≤ at
+Inv-loop t flags lower-meets upper-meets file needs roles news stirred marks starts-low starts-high loads-low loads-high from at₀ at = from ≤ at
 
 abbrev μ-loop : tie.MeasureT-loop
-μ-loop t flags lower-meets upper-meets file needs roles news marks starts-low starts-high loads-low loads-high from at₀ at = length file - at
+μ-loop t flags lower-meets upper-meets file needs roles news stirred marks starts-low starts-high loads-low loads-high from at₀ at = length file - at
 
 onward-requires : tie.Need-onward-requires Inv-loop μ-loop
 onward-requires c κs = let pre = c .before .before .pre in omega (arith, pre .1, pre .2)

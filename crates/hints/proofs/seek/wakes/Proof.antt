@@ -1,4 +1,4 @@
--- Bounds of places in the table of sums. Assumes nothing.
+-- Bounds of places in the table of grown. Assumes nothing.
 use borrow.Author.Needs.{needs}
 use Rattle.hints.proofs.seek.wakes.Statement.{statement}
 use Rattle.hints.proofs.seek.wakes.Tie as tie
@@ -162,26 +162,11 @@ without-requires c κs = search needs
 returns-3 : tie.Need-returns-3
 returns-3 c = search needs
 
+lacks-requires : tie.Need-lacks-requires
+lacks-requires c κs = search needs
+
 returns-4 : tie.Need-returns-4
 returns-4 c = search needs
-
-shared-slice-read-wide-3 : tie.Need-shared-slice-read-wide-3
-shared-slice-read-wide-3 c = search needs
-
-wide-requires-3 : tie.Need-wide-requires-3
-wide-requires-3 c κs = search needs
-
-mul-without : tie.Need-mul-without
-mul-without c = search needs
-
-shared-slice-read-without : tie.Need-shared-slice-read-without
-shared-slice-read-without c = search needs
-
-without-requires-2 : tie.Need-without-requires-2
-without-requires-2 c κs = search needs
-
-returns-5 : tie.Need-returns-5
-returns-5 c = search needs
 
 pub wakes-spec : {M : Type 1} → statement M
 wakes-spec =
@@ -240,10 +225,5 @@ wakes-spec =
     returns-2
     without-requires
     returns-3
-    returns-4
-    shared-slice-read-wide-3
-    wide-requires-3
-    mul-without
-    shared-slice-read-without
-    without-requires-2
-    returns-5)
+    lacks-requires
+    returns-4)

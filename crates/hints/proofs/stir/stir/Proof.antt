@@ -9,10 +9,10 @@ use Rattle.hints.proofs.stir.stir.Statement.{statement}
 use Rattle.hints.proofs.stir.stir.Tie as tie
 
 abbrev Inv-loop : tie.InvT-loop
-Inv-loop t functions classes last chains fresh methods added handed stale handed-by₀ thrown-by₀ thrown-in₀ roles₀ sums₀ threw gave labels thirds word₀ objects₀ v₀ handed-by thrown-by thrown-in roles sums word objects v = (v ≤ 256) × (length handed-by ≡ 256) × (length thrown-by ≡ 256) × (length thrown-in ≡ 256) × (length roles ≡ 256) × (length sums ≡ 13)
+Inv-loop t functions classes last stirred chains fresh methods added handed stale handed-by₀ thrown-by₀ thrown-in₀ roles₀ grown₀ threw gave thirds word₀ objects₀ v₀ handed-by thrown-by thrown-in roles grown word objects v = (v ≤ 256) × (length handed-by ≡ 256) × (length thrown-by ≡ 256) × (length thrown-in ≡ 256) × (length roles ≡ 256) × (length grown ≡ 12)
 
 abbrev μ-loop : tie.MeasureT-loop
-μ-loop t functions classes last chains fresh methods added handed stale handed-by₀ thrown-by₀ thrown-in₀ roles₀ sums₀ threw gave labels thirds word₀ objects₀ v₀ handed-by thrown-by thrown-in roles sums word objects v = 256 - v
+μ-loop t functions classes last stirred chains fresh methods added handed stale handed-by₀ thrown-by₀ thrown-in₀ roles₀ grown₀ threw gave thirds word₀ objects₀ v₀ handed-by thrown-by thrown-in roles grown word objects v = 256 - v
 
 stir-names-requires : tie.Need-stir-names-requires Inv-loop μ-loop
 stir-names-requires c κs = search needs
@@ -25,9 +25,6 @@ meet-requires c κs = search needs
 
 meet-requires-2 : tie.Need-meet-requires-2 Inv-loop μ-loop
 meet-requires-2 c κs = search needs
-
-element-copy-out-labels : tie.Need-element-copy-out-labels Inv-loop μ-loop
-element-copy-out-labels c = search needs
 
 element-copy-out-thirds : tie.Need-element-copy-out-thirds Inv-loop μ-loop
 element-copy-out-thirds c = search needs
@@ -155,20 +152,20 @@ part-of-requires-8 c κs = search needs
 join-requires-8 : tie.Need-join-requires-8 Inv-loop μ-loop
 join-requires-8 c κs = search needs
 
-mul-sums : tie.Need-mul-sums Inv-loop μ-loop
-mul-sums c = omega (arith, c .before .before .before .before .before .before .before .before .before .before .before .before .before .before .before .before .before .before .before .before .before .before .before .before .before .before .before .before .before .before .before .before .before .before .before .before .before .before .before .loop-test .taken)
+mul-grown : tie.Need-mul-grown Inv-loop μ-loop
+mul-grown c = omega (arith, c .before .before .before .before .before .before .before .before .before .before .before .before .before .before .before .before .before .before .before .before .before .before .before .before .before .before .before .before .before .before .before .before .before .before .before .before .before .before .before .loop-test .taken)
 
-element-write-sums : tie.Need-element-write-sums Inv-loop μ-loop
-element-write-sums c = omega (arith, c .before .before .before .before .before .before .before .before .before .before .before .before .before .before .before .before .before .before .before .before .before .before .before .before .before .before .before .before .before .before .before .before .before .before .before .before .before .before .before .loop-test .taken)
+element-write-grown : tie.Need-element-write-grown Inv-loop μ-loop
+element-write-grown c = omega (arith, c .before .before .before .before .before .before .before .before .before .before .before .before .before .before .before .before .before .before .before .before .before .before .before .before .before .before .before .before .before .before .before .before .before .before .before .before .before .before .before .loop-test .taken)
 
-add-sums : tie.Need-add-sums Inv-loop μ-loop
-add-sums c = omega (arith, c .before .before .before .before .before .before .before .before .before .before .before .before .before .before .before .before .before .before .before .before .before .before .before .before .before .before .before .before .before .before .before .before .before .before .before .before .before .before .before .loop-test .taken)
+add-grown : tie.Need-add-grown Inv-loop μ-loop
+add-grown c = omega (arith, c .before .before .before .before .before .before .before .before .before .before .before .before .before .before .before .before .before .before .before .before .before .before .before .before .before .before .before .before .before .before .before .before .before .before .before .before .before .before .before .loop-test .taken)
 
-mul-sums-2 : tie.Need-mul-sums-2 Inv-loop μ-loop
-mul-sums-2 c = omega (arith, c .before .before .before .before .before .before .before .before .before .before .before .before .before .before .before .before .before .before .before .before .before .before .before .before .before .before .before .before .before .before .before .before .before .before .before .before .before .before .before .loop-test .taken)
+mul-grown-2 : tie.Need-mul-grown-2 Inv-loop μ-loop
+mul-grown-2 c = omega (arith, c .before .before .before .before .before .before .before .before .before .before .before .before .before .before .before .before .before .before .before .before .before .before .before .before .before .before .before .before .before .before .before .before .before .before .before .before .before .before .before .loop-test .taken)
 
-element-write-sums-2 : tie.Need-element-write-sums-2 Inv-loop μ-loop
-element-write-sums-2 c = omega (arith, c .before .before .before .before .before .before .before .before .before .before .before .before .before .before .before .before .before .before .before .before .before .before .before .before .before .before .before .before .before .before .before .before .before .before .before .before .before .before .before .loop-test .taken)
+element-write-grown-2 : tie.Need-element-write-grown-2 Inv-loop μ-loop
+element-write-grown-2 c = omega (arith, c .before .before .before .before .before .before .before .before .before .before .before .before .before .before .before .before .before .before .before .before .before .before .before .before .before .before .before .before .before .before .before .before .before .before .before .before .before .before .before .loop-test .taken)
 
 add-v : tie.Need-add-v Inv-loop μ-loop
 add-v c = omega (arith, c .before .before .before .before .before .before .before .before .before .before .before .before .before .before .before .before .before .before .before .before .before .before .before .before .before .before .before .before .before .before .before .before .before .before .before .before .before .before .before .loop-test .taken)
@@ -200,7 +197,6 @@ stir-spec =
     element-copy-out-meet
     meet-requires
     meet-requires-2
-    element-copy-out-labels
     element-copy-out-thirds
     loop-holds
     mul-on
@@ -243,11 +239,11 @@ stir-spec =
     join-requires-7
     part-of-requires-8
     join-requires-8
-    mul-sums
-    element-write-sums
-    add-sums
-    mul-sums-2
-    element-write-sums-2
+    mul-grown
+    element-write-grown
+    add-grown
+    mul-grown-2
+    element-write-grown-2
     add-v
     loop-less
     loop-again

@@ -5,10 +5,10 @@ use Rattle.hints.proofs.stir.stir_names.Statement.{statement}
 use Rattle.hints.proofs.stir.stir_names.Tie as tie
 
 abbrev Inv-loop : tie.InvT-loop
-Inv-loop t last sums names₀ news₀ labels₀ thirds₀ m₀ names news labels thirds m = m ≤ 64
+Inv-loop t last grown names₀ news₀ thirds₀ m₀ names news thirds m = m ≤ 64
 
 abbrev μ-loop : tie.MeasureT-loop
-μ-loop t last sums names₀ news₀ labels₀ thirds₀ m₀ names news labels thirds m = 64 - m
+μ-loop t last grown names₀ news₀ thirds₀ m₀ names news thirds m = 64 - m
 
 loop-holds : tie.Need-loop-holds Inv-loop μ-loop
 loop-holds c = search needs
@@ -34,12 +34,6 @@ meet-requires c κs = search needs
 join-requires : tie.Need-join-requires Inv-loop μ-loop
 join-requires c κs = search needs
 
-single-requires : tie.Need-single-requires Inv-loop μ-loop
-single-requires c κs = search needs
-
-join-requires-2 : tie.Need-join-requires-2 Inv-loop μ-loop
-join-requires-2 c κs = search needs
-
 mul-gather : tie.Need-mul-gather Inv-loop μ-loop
 mul-gather c = search needs
 
@@ -49,17 +43,17 @@ add-gather c = search needs
 gather-requires : tie.Need-gather-requires Inv-loop μ-loop
 gather-requires c κs = search needs
 
-join-requires-3 : tie.Need-join-requires-3 Inv-loop μ-loop
-join-requires-3 c κs = search needs
+join-requires-2 : tie.Need-join-requires-2 Inv-loop μ-loop
+join-requires-2 c κs = search needs
 
 has-requires : tie.Need-has-requires Inv-loop μ-loop
 has-requires c κs = search needs
 
-single-requires-2 : tie.Need-single-requires-2 Inv-loop μ-loop
-single-requires-2 c κs = search needs
+single-requires : tie.Need-single-requires Inv-loop μ-loop
+single-requires c κs = search needs
 
-join-requires-4 : tie.Need-join-requires-4 Inv-loop μ-loop
-join-requires-4 c κs = search needs
+join-requires-3 : tie.Need-join-requires-3 Inv-loop μ-loop
+join-requires-3 c κs = search needs
 
 add-m : tie.Need-add-m Inv-loop μ-loop
 add-m c = search needs
@@ -70,8 +64,8 @@ loop-less c = search needs
 loop-again : tie.Need-loop-again Inv-loop μ-loop
 loop-again c = search needs
 
-element-write-sums : tie.Need-element-write-sums Inv-loop μ-loop
-element-write-sums c = search needs
+element-write-grown : tie.Need-element-write-grown Inv-loop μ-loop
+element-write-grown c = search needs
 
 element-copy-out-meet : tie.Need-element-copy-out-meet Inv-loop μ-loop
 element-copy-out-meet c = search needs
@@ -79,17 +73,14 @@ element-copy-out-meet c = search needs
 meet-requires-2 : tie.Need-meet-requires-2 Inv-loop μ-loop
 meet-requires-2 c κs = search needs
 
-element-write-sums-2 : tie.Need-element-write-sums-2 Inv-loop μ-loop
-element-write-sums-2 c = search needs
+element-write-grown-2 : tie.Need-element-write-grown-2 Inv-loop μ-loop
+element-write-grown-2 c = search needs
 
-element-write-sums-3 : tie.Need-element-write-sums-3 Inv-loop μ-loop
-element-write-sums-3 c = search needs
+element-write-grown-3 : tie.Need-element-write-grown-3 Inv-loop μ-loop
+element-write-grown-3 c = search needs
 
-element-write-sums-4 : tie.Need-element-write-sums-4 Inv-loop μ-loop
-element-write-sums-4 c = search needs
-
-element-write-sums-5 : tie.Need-element-write-sums-5 Inv-loop μ-loop
-element-write-sums-5 c = search needs
+element-write-grown-4 : tie.Need-element-write-grown-4 Inv-loop μ-loop
+element-write-grown-4 c = search needs
 
 returns : tie.Need-returns Inv-loop μ-loop
 returns c = search needs
@@ -108,23 +99,20 @@ stir-names-spec =
     above-requires
     meet-requires
     join-requires
-    single-requires
-    join-requires-2
     mul-gather
     add-gather
     gather-requires
-    join-requires-3
+    join-requires-2
     has-requires
-    single-requires-2
-    join-requires-4
+    single-requires
+    join-requires-3
     add-m
     loop-less
     loop-again
-    element-write-sums
+    element-write-grown
     element-copy-out-meet
     meet-requires-2
-    element-write-sums-2
-    element-write-sums-3
-    element-write-sums-4
-    element-write-sums-5
+    element-write-grown-2
+    element-write-grown-3
+    element-write-grown-4
     returns)

@@ -21,15 +21,15 @@ use Rattle.passes.proofs.hurry.hurry.Statement.{statement}
 use Rattle.passes.proofs.hurry.hurry.Tie as tie
 
 abbrev Inv-loop : tie.InvT-loop
-Inv-loop go t₀ lower-meets₀ upper-meets₀ file types functions flags formals classes returned low₀ high₀ totals₀ last₀ chain-words₀ fresh₀ methods₀ added₀ lower₀ upper₀ handed₀ all-last₀ all-fresh₀ all-added₀ all-stale needs starts-low starts-high loads-low loads-high named reads0 reads1 reads2 reads3 handed-by₀ thrown-by₀ thrown-in₀ roles₀ sums₀ marks₀ all₀ again₀ t lower-meets upper-meets low high totals last chain-words fresh methods added lower upper handed all-last all-fresh all-added handed-by thrown-by thrown-in roles sums marks all again =
-    ((length t ≡ length t₀) × (length lower-meets ≡ 256) × (length upper-meets ≡ 256) × (length low ≡ 2048) × (length high ≡ 384) × (length totals ≡ 38) × (length last ≡ 38) × (length chain-words ≡ 256) × (length fresh ≡ 256) × (length methods ≡ 256) × (length added ≡ 256) × (length lower ≡ 256) × (length upper ≡ 256) × (length handed ≡ 64) × (length all-last ≡ 38) × (length all-fresh ≡ 256) × (length all-added ≡ 256) × (length handed-by ≡ 256) × (length thrown-by ≡ 256) × (length thrown-in ≡ 256) × (length roles ≡ 256) × (length sums ≡ 13) × (length marks ≡ 8))
+Inv-loop go t₀ lower-meets₀ upper-meets₀ file types functions flags formals classes returned low₀ high₀ totals₀ last₀ chain-words₀ fresh₀ methods₀ added₀ lower₀ upper₀ handed₀ all-last₀ all-fresh₀ all-added₀ all-stale needs starts-low starts-high loads-low loads-high named reads0 reads1 reads2 reads3 handed-by₀ thrown-by₀ thrown-in₀ roles₀ grown₀ marks₀ all₀ again₀ t lower-meets upper-meets low high totals last chain-words fresh methods added lower upper handed all-last all-fresh all-added handed-by thrown-by thrown-in roles grown marks all again =
+    ((length t ≡ length t₀) × (length lower-meets ≡ 256) × (length upper-meets ≡ 256) × (length low ≡ 2048) × (length high ≡ 384) × (length totals ≡ 38) × (length last ≡ 38) × (length chain-words ≡ 256) × (length fresh ≡ 256) × (length methods ≡ 256) × (length added ≡ 256) × (length lower ≡ 256) × (length upper ≡ 256) × (length handed ≡ 64) × (length all-last ≡ 38) × (length all-fresh ≡ 256) × (length all-added ≡ 256) × (length handed-by ≡ 256) × (length thrown-by ≡ 256) × (length thrown-in ≡ 256) × (length roles ≡ 256) × (length grown ≡ 12) × (length marks ≡ 8))
     × ((p : Program) (base old : Table) → p .sheet .types ≡ types → Laid p functions flags formals classes returned → Small 64 t₀ → Sizes t₀ low₀ high₀ totals₀
     → Fulls classes t₀ lower-meets₀ upper-meets₀
     → Behind base old t₀ returned classes last₀ chain-words₀ methods₀ lower₀ upper₀ handed₀ all-last₀ all-fresh₀ all-added₀ all-stale
     → Hurried (passRules p file) base t₀ t returned classes lower-meets upper-meets low high totals last chain-words methods lower upper handed all-last all-fresh all-added all)
 
 abbrev μ-loop : tie.MeasureT-loop
-μ-loop go t₀ lower-meets₀ upper-meets₀ file types functions flags formals classes returned low₀ high₀ totals₀ last₀ chain-words₀ fresh₀ methods₀ added₀ lower₀ upper₀ handed₀ all-last₀ all-fresh₀ all-added₀ all-stale needs starts-low starts-high loads-low loads-high named reads0 reads1 reads2 reads3 handed-by₀ thrown-by₀ thrown-in₀ roles₀ sums₀ marks₀ all₀ again₀ t lower-meets upper-meets low high totals last chain-words fresh methods added lower upper handed all-last all-fresh all-added handed-by thrown-by thrown-in roles sums marks all again =
+μ-loop go t₀ lower-meets₀ upper-meets₀ file types functions flags formals classes returned low₀ high₀ totals₀ last₀ chain-words₀ fresh₀ methods₀ added₀ lower₀ upper₀ handed₀ all-last₀ all-fresh₀ all-added₀ all-stale needs starts-low starts-high loads-low loads-high named reads0 reads1 reads2 reads3 handed-by₀ thrown-by₀ thrown-in₀ roles₀ grown₀ marks₀ all₀ again₀ t lower-meets upper-meets low high totals last chain-words fresh methods added lower upper handed all-last all-fresh all-added handed-by thrown-by thrown-in roles grown marks all again =
     left 64 again t
 
 -- ---- the places of the function, from each back to the one before it
@@ -106,7 +106,7 @@ loop-holds c =
         long,
         long,
         long,
-        length-replicate {A = ℕ} 13 0,
+        length-replicate {A = ℕ} 12 0,
         length-replicate {A = ℕ} 8 0,
       ),
       λ p base old types laid small sizes fulls behind.

@@ -5,8 +5,8 @@ use native.Mathlib.Omega.{arith}
 use Prim.Native.Nat.{_-_}
 use lib.ListN.{length-set}
 use Rattle.hints.proofs.Begins.{one-bit-more}
-use Rattle.hints.proofs.index.place.Statement.{statement}
-use Rattle.hints.proofs.index.place.Tie as tie
+use Rattle.hints.proofs.index.set_start.Statement.{statement}
+use Rattle.hints.proofs.index.set_start.Tie as tie
 
 returns : tie.Need-returns
 returns c = (λ b i h o. inr o, c .before .pre)
@@ -44,8 +44,8 @@ returns-4 c =
       rw length-set (start .pre),
     )
 
-pub place-spec : {M : Type 1} → statement M
-place-spec =
+pub set-start-spec : {M : Type 1} → statement M
+set-start-spec =
     tie.close
     (tie.spec
     returns
