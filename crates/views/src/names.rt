@@ -63,6 +63,7 @@ pub fn names_by(classes: &[u64; 8], key: u8) -> u64
     requires { ⌜ Key key ⌝ }
     ensures { λ r. ⌜ ((p : Program) → Named p (now (classes .entry)) → Listed (namesOf (p .sheet) key) r) ⌝ }
     ensures { λ r. ⌜ (128 ≤ key → r ≡ getD (now (classes .entry)) (key - 128) 0) ⌝ }
+    ensures { λ r. ⌜ (key < 128 → r ≡ 2 ^ key) ⌝ }
 {
     let k = wide(key);
     if k < 128 {
