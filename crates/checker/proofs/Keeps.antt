@@ -15,9 +15,8 @@ use Rattle.program.specs.Program.{namesOf}
 use Rattle.analysis.proofs.Held.{on-both}
 use Rattle.tables.specs.Sets.{Gathered, Properties, Listed}
 use Rattle.views.specs.Arrays.{programBy}
-use Rattle.views.specs.Range.{Key}
 use Rattle.tables.proofs.Loops.{Unions, unions-end}
-use Rattle.views.proofs.Words.{listed-single, listed-prim}
+use Rattle.views.proofs.Words.{listed-prim}
 use Rattle.checker.specs.Kept as kept
 use Rattle.checker.specs.Kept.{Each, Joined, Under, Common, nameWord}
 use Rattle.lookups.specs.Kept.{Exact}
@@ -36,23 +35,24 @@ kept-next Good words n w h good each i l = go (ℕ-discrete i n)
 
 -- ---- names
 
-pub word-listed : (masks words : List ℕ) (key : ℕ) → Key key → kept.Names masks words
-    → Listed (namesOf (programBy [] [] [] masks [] .sheet) key) (nameWord words key)
-unfolding namesOf
-word-listed masks words key k names = go (decLt key 128)
+pub name-word : (words : List ℕ) (key r : ℕ) → (128 ≤ key → r ≡ getD words (key - 128) 0) → (key < 128 → r ≡ 2 ^ key) → r ≡ nameWord words key
+name-word words key r class name = go (decLt key 128)
   where
-    go : Dec (key < 128) → Listed (namesOf (programBy [] [] [] masks [] .sheet) key) (nameWord words key)
-    go (yes h) = rw (lt-ltb key 128 h) (listed-single key)
-    go (no h) =
-        let l : 128 ≤ key = omega (arith, h) in
-        let e : 128 + (key - 128) ≡ key = omega arith in
-        let n : Listed (namesOf (programBy [] [] [] masks [] .sheet) key) (getD words (key - 128) 0) = rw e at (names (key - 128) (omega (arith, k .0))) in
-        rw (le-ltb key 128 l) (rw (le-ltb key 128 l) at n)
+    go : Dec (key < 128) → r ≡ nameWord words key
+    go (yes h) = rw (lt-ltb key 128 h) (name h)
+    go (no h) = let l : 128 ≤ key = omega (arith, h) in rw (le-ltb key 128 l) (class l)
+
+class-listed : (masks words : List ℕ) (c : ℕ) → c < 8 → kept.Names masks words
+    → Listed (namesOf (programBy [] [] [] masks [] .sheet) (128 + c)) (getD words c 0)
+unfolding namesOf
+class-listed masks words c h names =
+    let e : 128 + c - 128 ≡ c = omega arith in
+    rw (le-ltb (128 + c) 128 (omega arith), e) (names c h)
 
 pub unions-joined : (t : Table) (masks words unions : List ℕ) → kept.Names masks words
     → Each 512 (λ i w. Gathered t (getD words (i / 64) 0) (256 + 32 * (i % 64)) w) unions → kept.Unions t masks unions
 unions-joined t masks words unions names each i h =
-    let n = names (i / 64) (omega arith) in
+    let n = class-listed masks words (i / 64) (omega arith) names in
     let g = each i h in
     record {
       source = λ x o. let s = g .source x o in (s .0, n .source (s .0) (s .1), s .2);

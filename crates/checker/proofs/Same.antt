@@ -1,6 +1,6 @@
 -- The arrays of the sheet say what the program says: of any table the rules of the one tell the same as those of the other. So what is found by
 -- the arrays is found for the program's rules. Assumes nothing.
-use mathlib.Core.Path.{_≡_, refl, sym, ap, subst}
+use mathlib.Core.Path.{_≡_, refl, sym, subst}
 use mathlib.Core.Logic.{_⊎_, inl, inr}
 use mathlib.Core.List.{List, [], _∷_, _++_, map, List·Memᴰ}
 use mathlib.Core.Bool.{Bool, true, false}
@@ -22,6 +22,7 @@ use Rattle.analysis.specs.Rules.{entering, calling, ruleOf, rules}
 use Rattle.analysis.proofs.Proper.{readable-proper}
 use Rattle.analysis.proofs.Returned.{readable-returned, returns-below}
 use Rattle.views.specs.Arrays.{returnsBy, sheetProgram, passRules, theGuest}
+use Rattle.views.proofs.Hosts.{rules-split}
 use Rattle.views.proofs.Returns.{returned-back, back-returned}
 
 -- a program with this sheet
@@ -97,17 +98,6 @@ module _ (t : Table) (r l : ℕ) where
       go : Told 64 t (every ps) r l ⊎ Told 64 t (every qs) r l → Told 64 t (every (p ∷ ps)) r l ⊎ Told 64 t (every qs) r l
       go (inl g) = inl (inr g)
       go (inr g) = inr g
-
-module _ (p : Program) where
-  rule-again : (ss : List (ℕ × say.Statement)) → map (λ (r : ℕ × Rule). r .1) (map (λ (a : ℕ × say.Statement). (a .0, ruleOf p (a .1))) ss) ≡ map (λ a. ruleOf p (a .1)) ss
-  rule-again [] = refl
-  rule-again (a ∷ ss) = ap (λ (rs : List Rule). ruleOf p (a .1) ∷ rs) (rule-again ss)
-
-  rules-split : (gs hs : List (ℕ × say.Statement))
-      → map (λ (r : ℕ × Rule). r .1) (map (λ (a : ℕ × say.Statement). (a .0, ruleOf p (a .1))) (gs ++ hs))
-      ≡ map (λ a. ruleOf p (a .1)) gs ++ map (λ a. ruleOf p (a .1)) hs
-  rules-split [] hs = rule-again hs
-  rules-split (a ∷ gs) hs = ap (λ (rs : List Rule). ruleOf p (a .1) ∷ rs) (rules-split gs hs)
 
 module _ (file : List ℕ) (ok : Readable 64 file) where
   abbrev sheet : Sheet

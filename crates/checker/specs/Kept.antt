@@ -12,9 +12,10 @@ use Rattle.rules.specs.Rule.{include, over}
 use Rattle.rules.specs.Round.{labels}
 use Rattle.rules.specs.Gap.{Finds}
 use Rattle.program.specs.Program.{namesOf, returnsOf}
-use Rattle.tables.specs.Sets.{Gathered, Listed}
+use Rattle.tables.specs.Sets.{Gathered}
 use Rattle.lookups.specs.Kept.{Exact}
 use Rattle.views.specs.Arrays.{programBy}
+use Rattle.views.specs.View.{Named}
 
 -- each of the first n words is good
 abbrev pub Each : ℕ → (ℕ → ℕ → Type 0) → List ℕ → Type 0
@@ -42,7 +43,7 @@ nameWord words key = cond (ltb key 128) (2 ^ key) (getD words (key - 128) 0)
 
 -- for each class c its names, as a word
 abbrev pub Names : List ℕ → List ℕ → Type 0
-Names masks words = Each 8 (λ c w. Listed (namesOf (programBy [] [] [] masks [] .sheet) (128 + c)) w) words
+Names masks words = Named (programBy [] [] [] masks []) words
 
 -- for each class c and label m, at 64 * c + m, what H(m,n) holds for some name n of the class
 abbrev pub Unions : Table → List ℕ → List ℕ → Type 0

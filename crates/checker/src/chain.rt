@@ -1,34 +1,19 @@
 // The P line: the prototype chains of the declared labels, and of what the guest makes.
-ghost use mathlib.Core.Path.{_≡_};
 ghost use mathlib.Core.Bool.{not};
-ghost use mathlib.Core.List.{[], _∷_};
+ghost use mathlib.Core.List.{[]};
 ghost use Prim.Native.Nat.{_<_, _≤_};
 ghost use lib.ListN.{length};
 ghost use lib.Dec.{eqb};
 ghost use Rattle.rules.specs.Rule.{when};
 ghost use Rattle.rules.specs.Gap.{Finds};
-ghost use Rattle.analysis.specs.Rules.{parentsOf, guestChains};
+ghost use Rattle.analysis.specs.Rules.{guestChains};
 ghost use Rattle.views.specs.Arrays.{programBy, chainBy, chainRules, theGuest};
 ghost use Rattle.checker.specs.Seen.{seen};
 use crate::gather::gather;
 use crate::row::look_give;
 use crate::row::look_word;
 use crate::view::row_at;
-
-// The prototype of a type's objects.
-fn parent_of(kind: u8) -> usize
-    requires { ⌜ 0 < kind ⌝ }
-    ensures { λ r. ⌜ parentsOf kind ≡ r ∷ [] ⌝ }
-    ensures { λ r. ⌜ r < 64 ⌝ }
-{
-    if kind == 1 {
-        return 1;
-    }
-    if kind == 2 {
-        return 2;
-    }
-    4
-}
+use views::parents::parent_of;
 
 // P(l) holds l, the type's prototype, and every member's P.
 fn look_chain(t: &[u64], d: u64, kind: u8, l: usize, low: usize) -> usize

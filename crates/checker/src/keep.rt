@@ -18,20 +18,6 @@ use crate::gather::properties;
 use crate::row::look_include;
 use crate::view::row_at;
 use tables::wide;
-use views::names::names_of;
-
-// The names of each class.
-pub fn keep_names(masks: &[u8; 32], words: &mut [u64; 8])
-    requires { ⌜ length (now words) ≡ 8 ⌝ }
-    ensures { λ _. ⌜ (Names (now (masks .entry)) (now (words .exit))) ⌝ }
-    ensures { λ _. ⌜ length (now (words .exit)) ≡ 8 ⌝ }
-{
-    let mut c: u8 = 0;
-    while c < 8 {
-        words[wide(c)] = names_of(masks, 128 + c);
-        c += 1;
-    }
-}
 
 // For each class and label, the union of the label's properties under the names of the class.
 pub fn keep_unions(t: &[u64], d: u64, words: &[u64; 8], unions: &mut [u64; 512])

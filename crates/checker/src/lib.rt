@@ -28,11 +28,11 @@ use crate::keep::keep_handed;
 use crate::keep::keep_hurled;
 use crate::keep::keep_meets;
 use crate::keep::keep_methods;
-use crate::keep::keep_names;
 use crate::keep::keep_unions;
 use crate::pass::look_all;
 use crate::view::declared_word;
 use sheet::Sheet;
+use views::names::name_classes;
 
 // The lowest row that one use of the file's rules on the cleaned table would enlarge, 2,432 where there is none; the sheet holds the file's
 // declarations.
@@ -42,7 +42,7 @@ pub fn lowest_gap(file: &[u8], sheet: Sheet, table: &[u64]) -> usize
 {
     let d = declared_word(&sheet.types);
     let mut words = [0u64; 8];
-    keep_names(&sheet.masks, &mut words);
+    name_classes(&sheet.masks, &mut words);
     let mut unions = [0u64; 512];
     keep_unions(table, d, &words, &mut unions);
     let mut meets = [0u64; 512];

@@ -14,7 +14,7 @@ use crate::record::look_record;
 use views::walk::after;
 
 // Every record's rules, one record after the other.
-pub fn look_records<'a>(
+fn look_records<'a>(
     file: &[u8],
     t: &[u64],
     d: u64,

@@ -1,5 +1,4 @@
 // Loads, stores and prototypes: the rules of properties. What a load finds is collected first and then looked for in its row at once.
-ghost use mathlib.Core.Path.{_≡_};
 ghost use mathlib.Core.Bool.{not};
 ghost use mathlib.Core.List.{[]};
 ghost use Prim.Native.Nat.{_+_, _*_, _<_, _≤_};
@@ -21,6 +20,7 @@ use crate::row::look_names;
 use crate::row::look_word;
 use crate::view::row_at;
 use tables::wide;
+use views::names::names_by;
 
 // 17: load y, object x, key, w.
 pub fn load(
@@ -42,18 +42,6 @@ pub fn load(
     let ms = words::join(chains[x], row_at(t, d, 2304 + w));
     let all = under_key(t, d, masks, unions, ms, key);
     look_word(t, d, y, all, best)
-}
-
-// The names of a key.
-fn names_at(words: &[u64; 8], key: u8) -> u64
-    requires { ⌜ Key key ⌝ }
-    ensures { λ r. ⌜ r ≡ nameWord (now (words .entry)) key ⌝ }
-{
-    let k = wide(key);
-    if k < 128 {
-        return words::single(k);
-    }
-    words[k - 128]
 }
 
 // Labels that all properties of label l have under the names of a key: the row itself where it is one name.
@@ -112,7 +100,7 @@ pub fn store<'a>(
     requires { ⌜ (2432 ≤ length (now t)) × (x < 256) × Key key × (a < 256) × (Names (now masks) (now words)) × (Meets (seen d (now t)) (now words) (now meets)) ⌝ }
     ensures { λ r. ⌜ Finds 64 (seen d (now (t .entry))) (storing (programBy [] (now (flags .entry)) [] (now (masks .entry)) []) x key a) low r ⌝ }
 {
-    let names = names_at(words, key);
+    let names = names_by(words, key);
     let w = row_at(t, d, x);
     let mut best = low;
     let mut rest = w;

@@ -1,6 +1,6 @@
 -- The arrays of the sheet are those of the file's program, and the rules in the order of a pass are the program's. Assumes nothing.
-use mathlib.Core.Path.{_≡_, refl, sym, ap, subst, _∙_}
-use mathlib.Core.List.{List, [], _∷_, _++_, map}
+use mathlib.Core.Path.{_≡_, sym, ap, subst, _∙_}
+use mathlib.Core.List.{List, [], _++_, map}
 use mathlib.Core.Bool.{true}
 use Prim.Native.Nat.{ℕ, _+_, _*_, _/_, _%_, _<_}
 use native.Mathlib.Omega.{arith}
@@ -29,18 +29,9 @@ use Rattle.analysis.proofs.Returned.{readable-returned, returns-below}
 use Rattle.tables.specs.Sets.{Listed}
 use Rattle.views.specs.Arrays.{programBy, sheetProgram, passRules, theGuest}
 use Rattle.views.specs.View.{Laid}
+use Rattle.views.proofs.Hosts.{rules-split}
 
 -- ---- the rules in the order of a pass
-
-module _ (p : Program) where
-  rule-again : (ss : List (ℕ × say.Statement)) → map (λ (r : ℕ × Rule). r .1) (map (λ (a : ℕ × say.Statement). (a .0, ruleOf p (a .1))) ss) ≡ map (λ a. ruleOf p (a .1)) ss
-  rule-again [] = refl
-  rule-again (a ∷ ss) = ap (λ (rs : List Rule). ruleOf p (a .1) ∷ rs) (rule-again ss)
-
-  rules-split : (gs hs : List (ℕ × say.Statement))
-      → map (λ (r : ℕ × Rule). r .1) (map (λ (a : ℕ × say.Statement). (a .0, ruleOf p (a .1))) (gs ++ hs)) ≡ map (λ a. ruleOf p (a .1)) gs ++ map (λ a. ruleOf p (a .1)) hs
-  rules-split [] hs = rule-again hs
-  rules-split (a ∷ gs) hs = ap (λ (rs : List Rule). ruleOf p (a .1) ∷ rs) (rules-split gs hs)
 
 module _ (file : List ℕ) where
   abbrev program : Program

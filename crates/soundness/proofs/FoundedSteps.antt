@@ -40,10 +40,6 @@ primitives n (suc m) = all-more primitive (replicate m primitive) primitive-belo
 next-below : (s : State) (o : Object) → Below (withObject s o) (next s)
 next-below s o = object-below (length (s .objects)) (omega (arith, length-append (s .objects) (o ∷ [])))
 
--- what is there stays there as objects are added
-later-object : (s : State) (o : Object) {x : Value} → Below s x → Below (withObject s o) x
-later-object s o h = below-more (omega (arith, length-append (s .objects) (o ∷ []))) h
-
 module _ (p : Program) where
   later-write : (s : State) (f v : ℕ) (y : Value) {x : Value} → Below s x → Below (write p s f v y) x
   later-write s f v y h = below-more (write-untouched p s f v y .objects-kept .longer) h

@@ -1,7 +1,6 @@
 // The P line: the prototype chains of the declared labels, and of what the guest makes.
 ghost use mathlib.Core.Path.{_≡_};
 ghost use mathlib.Core.Bool.{not};
-ghost use mathlib.Core.List.{[], _∷_};
 ghost use Prim.Native.Nat.{_<_, _≤_};
 ghost use lib.ListN.{length};
 ghost use lib.Dec.{eqb};
@@ -9,27 +8,13 @@ ghost use Rattle.rules.specs.Rule.{when};
 ghost use Rattle.rules.specs.Table.{Table, Within};
 ghost use Rattle.rules.specs.Sweep.{Sweeps, Resumes};
 ghost use Rattle.program.specs.Program.{Program};
-ghost use Rattle.analysis.specs.Rules.{parentsOf, guestChains};
+ghost use Rattle.analysis.specs.Rules.{guestChains};
 ghost use Rattle.lookups.specs.Kept.{Same};
 ghost use Rattle.views.specs.Arrays.{chainBy, chainRules, theGuest};
 use tables::gather::gather;
 use tables::store::give_row;
 use tables::store::join_row;
-
-// The prototype of a type's objects.
-fn parent_of(kind: u8) -> usize
-    requires { ⌜ 0 < kind ⌝ }
-    ensures { λ r. ⌜ parentsOf kind ≡ r ∷ [] ⌝ }
-    ensures { λ r. ⌜ r < 64 ⌝ }
-{
-    if kind == 1 {
-        return 1;
-    }
-    if kind == 2 {
-        return 2;
-    }
-    4
-}
+use views::parents::parent_of;
 
 // P(l) holds l, the type's prototype, and every member's P: the last part only where a chain of a member grew.
 fn extend(t: &mut [u64], last: &[u64; 38], kind: u8, l: usize) -> bool

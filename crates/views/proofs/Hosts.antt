@@ -1,4 +1,5 @@
--- The rules of a file's records, as those of a list of records: of the records passed and of those left. Assumes nothing.
+-- The rules of a file's records, as those of a list of records: of the records passed and of those left; and the rules of statements in two parts.
+-- Assumes nothing.
 use mathlib.Core.Path.{_≡_, refl, sym, ap, _∙_}
 use mathlib.Core.List.{List, [], _∷_, _++_, map, append-assoc}
 use Prim.Native.Nat.{ℕ, _+_}
@@ -40,3 +41,16 @@ pub walk-rules : {file : List ℕ} {at : ℕ} (p : Program) (w : Walk file at)
 walk-rules p w =
     ap (λ (rs : List (ℕ × Record)). map (λ s. ruleOf p (s .1)) (hostStatements rs)) (w .whole) ∙ host-rules p 0 (w .done ++ w .rest)
     ∙ rules-append p (w .done) (w .rest)
+
+-- ---- the rules of statements, without the positions
+
+module _ (p : Program) where
+  rule-again : (ss : List (ℕ × Statement)) → map (λ (r : ℕ × Rule). r .1) (map (λ (a : ℕ × Statement). (a .0, ruleOf p (a .1))) ss) ≡ map (λ a. ruleOf p (a .1)) ss
+  rule-again [] = refl
+  rule-again (a ∷ ss) = ap (λ (rs : List Rule). ruleOf p (a .1) ∷ rs) (rule-again ss)
+
+  pub rules-split : (gs hs : List (ℕ × Statement))
+      → map (λ (r : ℕ × Rule). r .1) (map (λ (a : ℕ × Statement). (a .0, ruleOf p (a .1))) (gs ++ hs))
+      ≡ map (λ a. ruleOf p (a .1)) gs ++ map (λ a. ruleOf p (a .1)) hs
+  rules-split [] hs = rule-again hs
+  rules-split (a ∷ gs) hs = ap (λ (rs : List Rule). ruleOf p (a .1) ∷ rs) (rules-split gs hs)

@@ -46,18 +46,6 @@ fn class_names(masks: &[u8; 32], class: usize) -> u64
     names
 }
 
-// The names of a key: a name, or 128 + c for all names of class c.
-pub fn names_of(masks: &[u8; 32], key: u8) -> u64
-    requires { ⌜ Key key ⌝ }
-    ensures { λ r. ⌜ Listed (namesOf (programBy [] [] [] (now (masks .entry)) [] .sheet) key) r ⌝ }
-{
-    let k = wide(key);
-    if k < 128 {
-        return words::single(k);
-    }
-    class_names(masks, k - 128)
-}
-
 // The names of each class, as words.
 pub fn name_classes(masks: &[u8; 32], classes: &mut [u64; 8])
     requires { ⌜ length (now classes) ≡ 8 ⌝ }
@@ -70,11 +58,12 @@ pub fn name_classes(masks: &[u8; 32], classes: &mut [u64; 8])
     }
 }
 
-// The names of a key, by the words of the classes.
+// The names of a key, by the words of the classes: a name, or 128 + c for all names of class c.
 pub fn names_by(classes: &[u64; 8], key: u8) -> u64
     requires { ⌜ Key key ⌝ }
     ensures { λ r. ⌜ ((p : Program) → Named p (now (classes .entry)) → Listed (namesOf (p .sheet) key) r) ⌝ }
     ensures { λ r. ⌜ (128 ≤ key → r ≡ getD (now (classes .entry)) (key - 128) 0) ⌝ }
+    ensures { λ r. ⌜ (key < 128 → r ≡ 2 ^ key) ⌝ }
 {
     let k = wide(key);
     if k < 128 {

@@ -9,8 +9,8 @@ use Rattle.checker.proofs.lowest_gap.Tie as tie
 declared-word-requires : tie.Need-declared-word-requires
 declared-word-requires c κs = search needs
 
-keep-names-requires : tie.Need-keep-names-requires
-keep-names-requires c κs = search needs
+name-classes-requires : tie.Need-name-classes-requires
+name-classes-requires c κs = search needs
 
 keep-unions-requires : tie.Need-keep-unions-requires
 keep-unions-requires c κs = search needs
@@ -45,7 +45,7 @@ look-all-requires c κs =
     let chains = methods .before .before .before .before .before in
     let s = chains .before .before .before .before .before .before .before .before .before .before .before .before .before .before .before .before .before in
     let a = s .args in
-    let names = chains .before .before .before .before .before .before .before .before .keep-names .ensures .0 in
+    let names = chains .before .before .before .before .before .before .before .before .name-classes .ensures in
     let found = methods .keep-methods .ensures .0 in (
       s .pre .0,
       s .pre .1,
@@ -75,7 +75,7 @@ lowest-gap-spec =
     tie.close
     (tie.spec
     declared-word-requires
-    keep-names-requires
+    name-classes-requires
     keep-unions-requires
     keep-meets-requires
     keep-chains-requires

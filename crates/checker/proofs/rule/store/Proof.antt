@@ -13,12 +13,11 @@ use Rattle.rules.specs.Rule.{include, over, when}
 use Rattle.rules.specs.Round.{labels}
 use Rattle.rules.specs.Gap.{Finds}
 use Rattle.rules.proofs.Find.{finds-each-end}
-use Rattle.program.specs.Program.{namesOf}
 use Rattle.views.specs.Arrays.{programBy}
 use Rattle.checker.specs.Seen.{seen}
 use Rattle.checker.proofs.Seen.{seen-small}
 use Rattle.checker.proofs.Loops.{each-first, each-next}
-use Rattle.checker.proofs.Keeps.{word-listed}
+use Rattle.checker.proofs.Keeps.{name-word}
 use Rattle.checker.proofs.Finds.{store-named}
 use Rattle.checker.proofs.rule.store.Statement.{statement}
 use Rattle.checker.proofs.rule.store.Tie as tie
@@ -31,8 +30,8 @@ Inv-loop t d flags masks words meets x key a low names w best₀ rest₀ l₀ be
 abbrev μ-loop : tie.MeasureT-loop
 μ-loop t d flags masks words meets x key a low names w best₀ rest₀ l₀ best rest l = 64 - l
 
-names-at-requires : tie.Need-names-at-requires Inv-loop μ-loop
-names-at-requires c κs = search needs
+names-by-requires : tie.Need-names-by-requires Inv-loop μ-loop
+names-by-requires c κs = search needs
 
 row-at-requires : tie.Need-row-at-requires Inv-loop μ-loop
 row-at-requires c κs = search needs
@@ -50,7 +49,10 @@ element-copy-out-store-at : tie.Need-element-copy-out-store-at Inv-loop μ-loop
 element-copy-out-store-at c = search needs
 
 store-at-requires : tie.Need-store-at-requires Inv-loop μ-loop
-store-at-requires c κs = let p = c .before .before .before .before .before .before .before .before .pre in (p .0, c .before .before .loop-test .taken, p .3, rw (c .before .before .before .before .before .before .names-at .ensures) (c .before .common-at .ensures))
+store-at-requires c κs =
+    let b = c .before .before .before .before .before .before .before .before in
+    let n = c .before .before .before .before .before .before .names-by in
+    (b .pre .0, c .before .before .loop-test .taken, b .pre .3, rw (name-word (b .args .words .now) (b .args .key) (n .result) (n .ensures .1 .0) (n .ensures .1 .1)) (c .before .common-at .ensures))
 
 rest-requires : tie.Need-rest-requires Inv-loop μ-loop
 rest-requires c κs = search (needs, ahead-some)
@@ -69,14 +71,13 @@ loop-again c =
     (n .ahead, each-next _ _ _ (n .on) (n .next) (r .inv .1) (c .before .before .store-at .ensures))
 
 returns : tie.Need-returns Inv-loop μ-loop
-unfolding namesOf
 returns c =
     let b = c .before .before .before .before .before .before in
     let a = b .args in
-    let names = c .before .before .before .before .names-at in
+    let names = c .before .before .before .before .names-by in
     let e : c .before .loop .l ≡ 64 = omega arith in
-    store-named (programBy [] (a .flags .now) [] (a .masks .now) []) (a .x) (a .key) (a .a) (names .result)
-    (rw (names .ensures) (word-listed (a .masks .now) (a .words .now) (a .key) (b .pre .2) (b .pre .4))) (search needs)
+    let p = programBy [] (a .flags .now) [] (a .masks .now) [] in
+    store-named p (a .x) (a .key) (a .a) (names .result) (names .ensures .0 p (b .pre .4)) (search needs)
     (finds-each-end (variable (a .x)) (seen-small (a .d) (a .t .now) (b .fits .d .fits)) (rw (e, c .before .before .before .row-at .ensures) at (c .before .loop .inv .1)))
 
 pub store-spec : {M : Type 1} → statement M
@@ -85,7 +86,7 @@ store-spec =
     (tie.spec
     Inv-loop
     μ-loop
-    names-at-requires
+    names-by-requires
     row-at-requires
     first-requires
     loop-holds

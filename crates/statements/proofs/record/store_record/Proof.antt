@@ -83,7 +83,7 @@ returns-2 c =
       λ p old new named flags same within f.
           let done = stored .store-class .ensures .0 p (getD b 2 0) 0 (g .classes .now) old new flags (start .pre .1 .1 .1 .1 .0)
           (named-by .names-by .ensures .0 p named) at
-          (named-by .names-by .ensures .1 (omega (arith, e, high)) ∙ ap (λ (i : ℕ). getD (g .classes .now) i 0) class) same within (f .0) in (
+          (named-by .names-by .ensures .1 .0 (omega (arith, e, high)) ∙ ap (λ (i : ℕ). getD (g .classes .now) i 0) class) same within (f .0) in (
             store-at p (x .wide .result) (getD b 2 0) (v .wide2 .result) (getD b 1 0) (getD b 2 0) (getD b 3 0) (x .wide .ensures .0) refl (v .wide2 .ensures .0)
                 (done .0),
             (done .1, keeping-four 4 (g .classes .now) (g .upper-meets .now) (done .0) (f .1)),
@@ -119,7 +119,7 @@ returns-3 c =
       λ p old new named flags same within f.
           let done = stored .store-class2 .ensures .0 p (getD b 2 0) 4 (g .classes .now) old new flags (start .pre .1 .1 .1 .1 .0)
           (named-by .names-by .ensures .0 p named) at
-          (named-by .names-by .ensures .1 (omega (arith, e, high)) ∙ ap (λ (i : ℕ). getD (g .classes .now) i 0) class) same within (f .1) in (
+          (named-by .names-by .ensures .1 .0 (omega (arith, e, high)) ∙ ap (λ (i : ℕ). getD (g .classes .now) i 0) class) same within (f .1) in (
             store-at p (x .wide .result) (getD b 2 0) (v .wide2 .result) (getD b 1 0) (getD b 2 0) (getD b 3 0) (x .wide .ensures .0) refl (v .wide2 .ensures .0)
                 (done .0),
             (keeping-four 0 (g .classes .now) (g .lower-meets .now) (done .0) (f .0), done .1),

@@ -21,7 +21,8 @@ returns c =
     let a = c .before .before .before .args in
     let e = c .before .before .wide .ensures .0 in
     let h : a .key < 128 = omega arith in
-    (λ p named. rw (c .single .ensures, e, lt-ltb (a .key) 128 h) (listed-single (a .key)), λ i. absurd (omega (arith, h, i)))
+    let one = c .single .ensures in
+    (λ p named. rw (one, e, lt-ltb (a .key) 128 h) (listed-single (a .key)), (λ i. absurd (omega (arith, h, i)), λ _. rw (one, e) refl))
 
 mul-result : tie.Need-mul-result
 mul-result c = search needs
@@ -36,7 +37,7 @@ returns-2 c =
     let e = c .before .before .wide .ensures .0 in
     let h : 128 ≤ a .key = omega arith in
     let i : a .key < 136 = c .before .before .before .pre .0 in
-    (λ p named. rw (le-ltb (a .key) 128 h, e) (named (a .key - 128) (omega arith)), λ _. rw e refl)
+    (λ p named. rw (le-ltb (a .key) 128 h, e) (named (a .key - 128) (omega arith)), (λ _. rw e refl, λ j. absurd (omega (arith, h, j))))
 
 pub names-by-spec : {M : Type 1} → statement M
 names-by-spec =

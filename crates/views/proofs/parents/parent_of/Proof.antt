@@ -1,10 +1,10 @@
 -- The prototype by the type. Assumes nothing.
 use mathlib.Core.Path.{ap}
 use Rattle.analysis.specs.Rules.{parentsOf}
-use Rattle.views.proofs.Parents.{parents-other}
+use Rattle.views.proofs.Types.{parents-other}
 use borrow.Author.Needs.{needs}
-use Rattle.statements.proofs.chain.parent_of.Statement.{statement}
-use Rattle.statements.proofs.chain.parent_of.Tie as tie
+use Rattle.views.proofs.parents.parent_of.Statement.{statement}
+use Rattle.views.proofs.parents.parent_of.Tie as tie
 
 returns : tie.Need-returns
 returns c = (ap parentsOf (c .if1 .taken), search needs)
