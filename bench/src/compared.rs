@@ -11,6 +11,10 @@ use std::time::Duration;
 
 /// The opponents are run again and again for this long.
 const TIME: Duration = Duration::from_millis(200);
+/// A file whose verdict is shorter than this is measured in turn with the opponents, again and again.
+const SHORT: Duration = Duration::from_millis(20);
+/// How often.
+const ROUNDS: usize = 5;
 /// The count of passes is given up after this long.
 const COUNTING: Duration = Duration::from_secs(20);
 
@@ -50,7 +54,7 @@ pub fn compared(name: &str, file: &[u8], limit: Duration) -> Compared {
         assert_eq!(check.answer, expected, "{name}: check");
     }
     let mut lent = vec![0; second::rows::ROWS];
-    Compared {
+    let mut compared = Compared {
         name: name.to_string(),
         bytes: file.len(),
         records: files::records(file),
@@ -59,9 +63,25 @@ pub fn compared(name: &str, file: &[u8], limit: Duration) -> Compared {
         passes: counted.map(|(count, _)| count.passes),
         verdict: verdict.map(|verdict| verdict.time),
         check: check.map(|check| check.time),
-        hand: best(TIME, || drop(black_box(hand::verdict(file)))),
-        second: best(TIME, || drop(black_box(solver::verdict(file, &mut lent)))),
+        hand: Duration::MAX,
+        second: Duration::MAX,
+    };
+    let short = compared.verdict.is_some_and(|time| time < SHORT);
+    for round in 0..if short { ROUNDS } else { 1 } {
+        if round > 0 {
+            let (check, verdict) = measured(file, &compared.table, limit);
+            compared.verdict = least(compared.verdict, verdict.map(|verdict| verdict.time));
+            compared.check = least(compared.check, check.map(|check| check.time));
+        }
+        compared.hand = compared.hand.min(best(TIME, || drop(black_box(hand::verdict(file)))));
+        compared.second = compared.second.min(best(TIME, || drop(black_box(solver::verdict(file, &mut lent)))));
     }
+    compared
+}
+
+/// The shorter of two times.
+fn least(a: Option<Duration>, b: Option<Duration>) -> Option<Duration> {
+    a.into_iter().chain(b).min()
 }
 
 impl Compared {
