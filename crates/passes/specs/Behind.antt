@@ -1,5 +1,6 @@
--- What is known between passes. `base` is the table at the start of the last whole pass: all that the rules draw from it is in the table. `old` is the one
--- at the start of the last pass of any kind, to which the words kept belong; t is the table now. Assumes nothing.
+-- What the words kept say between passes. `base` is the table at the start of the last whole pass, `old` the one at the start of the last pass of any kind,
+-- to which the words belong; t is the table now. That all the rules draw from `base` is in t is not said here, but by the solver's invariant
+-- (`solver/proofs/Settling.antt`). Assumes nothing.
 use mathlib.Core.List.{List}
 use Prim.Native.Nat.{ℕ}
 use Rattle.rules.specs.Table.{Table, Within}
