@@ -1,28 +1,45 @@
 -- The customer's demands (`demands.md`), in its words, as statements about the definitions that the contracts of the operations cite: what the
 -- verdict answers (`verdictOutcome`) and leaves in the lent table (`verdictTable`), what the check answers (`checkOutcome`), what the rules derive
--- (`Derives`), and the runs of the machine. L is the number of labels, 64 in the code. proofs/Demands.antt proves them. Assumes nothing.
+-- (`Derives`), and the runs of the machine. L is the number of labels, 64 in the code. proofs/Demands.antt proves `Demands 64`. Assumes nothing.
 use mathlib.Core.Path.{_≡_}
 use mathlib.Core.Logic.{_↔_, _⊎_}
 use mathlib.Core.List.{List}
 use Prim.Native.Nat.{ℕ, _≤_, _<_}
-use lib.ListN.{length}
+use lib.ListN.{length, drop}
 use Rattle.rows.specs.Row.{rowCount}
 use Rattle.rules.specs.Table.{Table, Has, Small, emptyTable, facts}
 use Rattle.rules.specs.Told.{Derives}
 use Rattle.format.specs.Reading.{Readable, Concatenation}
 use Rattle.analysis.specs.Rules.{rules}
-use Rattle.answer.specs.Outcome.{refused, countOf}
-use Rattle.verdicts.specs.Verdict.{verdictOutcome, verdictTable, programIn, Leaks, Confined}
-use Rattle.verdicts.specs.Check.{Accepts}
+use Rattle.answer.specs.Outcome.{leaks, refused, countOf, packed}
+use Rattle.verdicts.specs.Verdict.{verdictOutcome, verdictTable, programIn, Leaks, Confined, Refused}
+use Rattle.verdicts.specs.Check.{checkOutcome, Accepts}
+use Rattle.verdicts.specs.Lists.{VerdictRefuses, CheckRefuses, LowestForbidden, Acceptable}
 use Rattle.soundness.specs.Confined as machine
 
--- Demand 1. That every input gets one of the answers, and that every call ends, is in the contracts: they equate the answer with a definition, and
--- none has a `requires`.
-pub record Demand1 (L : ℕ) : Type 0 where
-  -- "A file is refused only where it breaks the layout, or where file or table has a wrong size."
-  pub refused-only : (xs : List ℕ) (words n at : ℕ) → verdictOutcome L words xs ≡ refused n at → (words < rowCount L) ⊎ (Concatenation L xs → ⊥)
+-- Demand 1, of a list of bytes. That every call ends is in the contracts: they equate the answer with a definition, and none has a `requires`.
+pub record Demand1 (L : ℕ) (xs : List ℕ) : Type 0 where
+  -- "The answer to a statement file of whatever content is confined, leaks .., or a numbered refusal .."
+  pub verdict-answers : (words : ℕ)
+      → Confined (verdictOutcome L words xs) ⊎ (Leaks (verdictOutcome L words xs) ⊎ Refused 9 (verdictOutcome L words xs))
+  -- ".. leaks with the lowest forbidden label held .."
+  pub lowest-label : (t : Table) (l count : ℕ) → verdictOutcome L (length t) xs ≡ leaks l count
+      → LowestForbidden (programIn L xs .sheet) (verdictTable L xs t) l
+  -- ".. a numbered refusal with its position;": number and position are those of document 01's list
+  pub verdict-refuses : (words n at : ℕ) → (verdictOutcome L words xs ≡ refused n at) ↔ VerdictRefuses L xs words n at
+  -- "to a file with a finished table it is accepted or a refusal."
+  pub check-answers : (t : Table) → Accepts L xs t ⊎ Refused 11 (checkOutcome L xs t)
+  pub check-refuses : (t : Table) (n at : ℕ) → (checkOutcome L xs t ≡ refused n at) ↔ CheckRefuses L xs t n at
+  -- "A file is refused only where it breaks the layout, or where file or table has a wrong size.": there, and nowhere else
+  pub refused-exactly : (words : ℕ) → Refused 9 (verdictOutcome L words xs) ↔ ((words < rowCount L) ⊎ (Concatenation L xs → ⊥))
+  pub readable-exactly : Readable L xs ↔ Concatenation L xs
   -- "A refusal leaves the lent table unaltered"
-  pub refusal-leaves : (xs : List ℕ) (t : Table) (n at : ℕ) → verdictOutcome L (length t) xs ≡ refused n at → verdictTable L xs t ≡ t
+  pub refusal-leaves : (t : Table) (n at : ℕ) → verdictOutcome L (length t) xs ≡ refused n at → verdictTable L xs t ≡ t
+  -- the word that is handed over tells the answer
+  pub verdict-told : L ≤ 256 → (words words' : ℕ) (ys : List ℕ) → packed (verdictOutcome L words xs) ≡ packed (verdictOutcome L words' ys)
+      → verdictOutcome L words xs ≡ verdictOutcome L words' ys
+  pub check-told : L ≤ 256 → (t u : Table) (ys : List ℕ) → packed (checkOutcome L xs t) ≡ packed (checkOutcome L ys u)
+      → checkOutcome L xs t ≡ checkOutcome L ys u
 
 -- Demand 2, of a readable file and a lent table of full size.
 pub record Demand2 (L : ℕ) (xs : List ℕ) (t : Table) : Type 0 where
@@ -30,12 +47,17 @@ pub record Demand2 (L : ℕ) (xs : List ℕ) (t : Table) : Type 0 where
   pub exactly-derived : (r l : ℕ) → r < rowCount L → Has (verdictTable L xs t) r l ↔ Derives L (rules L (programIn L xs)) (emptyTable L) r l
   -- "The fact count is the number of these."
   pub counted : countOf (verdictOutcome L (length t) xs) ≡ facts L (verdictTable L xs t)
+  -- document 01: "words beyond stay untouched"
+  pub beyond-stay : drop (rowCount L) (verdictTable L xs t) ≡ drop (rowCount L) t
+  pub same-length : length (verdictTable L xs t) ≡ length t
 
 -- Demand 3.
 pub record Demand3 (L : ℕ) (xs : List ℕ) : Type 0 where
   -- "Take any statement file and any table, whoever made it, that the check accepts for that file .. Then after every finite list of steps of the
   -- handset machine from its start .. the guest holds no object of a forbidden label."
   pub accepted-safe : (t : Table) → Accepts L xs t → machine.Confined (programIn L xs)
+  -- ".. as it does exactly where its list in document 01 has no refusal."
+  pub accepts-exactly : (t : Table) → Accepts L xs t ↔ Acceptable L xs t
   -- "A readable file, with a table of full size lent, gets leaks exactly when there is no table at all that the check accepts for it,"
   pub leaks-exactly : Readable L xs → (words : ℕ) → rowCount L ≤ words
       → Leaks (verdictOutcome L words xs) ↔ ((t : Table) → Small L t → Accepts L xs t → ⊥)
@@ -45,3 +67,9 @@ pub record Demand3 (L : ℕ) (xs : List ℕ) : Type 0 where
   -- "after confined the check accepts for it the lent table as the verdict left it."
   pub confined-left : Readable L xs → (t : Table) → rowCount L ≤ length t → Confined (verdictOutcome L (length t) xs)
       → Accepts L xs (verdictTable L xs t)
+
+-- The three, for every list of bytes and every table.
+pub record Demands (L : ℕ) : Type 0 where
+  pub demand-1 : (xs : List ℕ) → Demand1 L xs
+  pub demand-2 : (xs : List ℕ) → Readable L xs → (t : Table) → rowCount L ≤ length t → Demand2 L xs t
+  pub demand-3 : (xs : List ℕ) → Demand3 L xs

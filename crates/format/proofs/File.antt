@@ -14,18 +14,19 @@ use Rattle.format.specs.Sheet.{start}
 use Rattle.format.specs.Reading.{Reading, stopped, readFrom, lacking, finished, longest, readFile, Readable, Concatenation}
 use Rattle.format.proofs.Written.{just, Whole, read-whole, written-read, read-refusal-small, read-position-end, read-position-within}
 
-too-long : (L : ℕ) (xs : List ℕ) → longest < length xs → readFile L xs ≡ stopped (start L) 9 0
+pub too-long : (L : ℕ) (xs : List ℕ) → longest < length xs → readFile L xs ≡ stopped (start L) 9 0
 unfolding readFile
 too-long L xs h = rw (lt-ltb _ _ h)
 
-short-enough : (L : ℕ) (xs : List ℕ) → length xs ≤ longest → readFile L xs ≡ finished (readFrom L (start L) 0 xs)
+pub short-enough : (L : ℕ) (xs : List ℕ) → length xs ≤ longest → readFile L xs ≡ finished (readFrom L (start L) 0 xs)
 unfolding readFile
 short-enough L xs h = rw (le-ltb _ _ h)
 
 -- the three ways in which reading a file that is not too long ends
 pub data Ending (L : ℕ) (xs : List ℕ) : Type 0 where
   refused : (readFrom L (start L) 0 xs .refusal ≡ 0 → ⊥) → readFile L xs ≡ readFrom L (start L) 0 xs → Ending L xs
-  undefined : readFrom L (start L) 0 xs .refusal ≡ 0 → readFile L xs .refusal ≡ 7 → readFile L xs .position ≡ length xs → Ending L xs
+  undefined : readFrom L (start L) 0 xs .refusal ≡ 0 → lacking (readFrom L (start L) 0 xs .sheet .types) (readFrom L (start L) 0 xs .sheet .defined) ≡ true
+      → readFile L xs .refusal ≡ 7 → readFile L xs .position ≡ length xs → Ending L xs
   complete : readFrom L (start L) 0 xs .refusal ≡ 0 → readFile L xs ≡ readFrom L (start L) 0 xs
       → lacking (readFile L xs .sheet .types) (readFile L xs .sheet .defined) ≡ false → Ending L xs
 
@@ -42,7 +43,7 @@ ending L xs short =
         → Ending L xs
     go false qt u qu e = refused (eqb-false _ _ qt) e
     go true qt true qu e =
-        undefined (eqb-true _ _ qt) (ap (λ (r : Reading). r .refusal) e)
+        undefined (eqb-true _ _ qt) qu (ap (λ (r : Reading). r .refusal) e)
         (omega (arith, ap (λ (r : Reading). r .position) e, read-position-end L (start L) 0 xs (eqb-true (d .refusal) 0 qt)))
     go true qt false qu e = complete (eqb-true _ _ qt) e (rw e qu)
 
@@ -60,7 +61,7 @@ readable-read L xs e = go (decLe (length xs) longest)
   where
     by-ending : length xs ≤ longest → Ending L xs → Read L xs
     by-ending h (refused n same) = absurd (n (sym (ap (λ (d : Reading). d .refusal) same) ∙ e))
-    by-ending h (undefined z seven p) = absurd (omega arith)
+    by-ending h (undefined z u seven p) = absurd (omega arith)
     by-ending h (complete z same c) = record { short = h; whole = read-whole L (start L) 0 xs z; same = same; complete = c }
 
     go : Dec (length xs ≤ longest) → Read L xs
@@ -108,7 +109,7 @@ module _ (L : ℕ) (xs : List ℕ) where
     where
       go : Ending L xs → readFile L xs .refusal < 10
       go (refused n same) = omega (arith, ap (λ (d : Reading). d .refusal) same, read-refusal-small L (start L) 0 xs)
-      go (undefined z seven p) = omega arith
+      go (undefined z u seven p) = omega arith
       go (complete z same c) = omega (arith, ap (λ (d : Reading). d .refusal) same)
 
   pub file-position-within : readFile L xs .position ≤ length xs
@@ -116,7 +117,7 @@ module _ (L : ℕ) (xs : List ℕ) where
     where
       go : Ending L xs → readFile L xs .position ≤ length xs
       go (refused n same) = omega (arith, ap (λ (d : Reading). d .position) same, read-position-within L (start L) 0 xs)
-      go (undefined z seven p) = omega arith
+      go (undefined z u seven p) = omega arith
       go (complete z same c) = omega (arith, ap (λ (d : Reading). d .position) same, read-position-within L (start L) 0 xs)
 
   -- a file that is read to its end, be it readable or lack a function, has its length as position
@@ -131,5 +132,5 @@ module _ (L : ℕ) (xs : List ℕ) where
 
       go : Ending L xs → (readFile L xs .refusal ≡ 0) ⊎ (readFile L xs .refusal ≡ 7) → readFile L xs .position ≡ length xs
       go (refused n same) e = absurd (small _ (read-refusal-small L (start L) 0 xs) n (rw same at e))
-      go (undefined z seven p) e = p
+      go (undefined z u seven p) e = p
       go (complete z same c) e = omega (arith, ap (λ (d : Reading). d .position) same, read-position-end L (start L) 0 xs z)

@@ -5,6 +5,7 @@ pub mod Records
 pub mod Reading
 pub mod Written
 pub mod File
+pub mod Refusals
 pub mod Effect
 pub mod Later
 pub mod Arrays

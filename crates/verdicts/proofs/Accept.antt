@@ -1,37 +1,34 @@
--- What the check accepts: its list has no refusal exactly where the table has full size, the file is readable, the cleaned table is closed for the
--- rules, and row 1 of the given table holds no forbidden label. Its 10 names the lowest row of the given table that lacks something told.
--- Assumes nothing.
-use mathlib.Core.Path.{_≡_, refl, subst, _∙_}
-use mathlib.Core.Logic.{_↔_}
+-- What verdict and check go by: what both refuse, the word of forbidden labels held, and the gap, which is the lowest row of the given table that lacks
+-- something told. Assumes nothing.
+use mathlib.Core.Path.{_≡_, refl, subst}
 use mathlib.Core.List.{List, [], _∷_}
 use mathlib.Core.Bool.{Bool, true, false, cond}
 use Prim.Native.Nat.{ℕ, _<_, _≤_}
 use native.Mathlib.Decide.{decLt}
 use native.Mathlib.Omega.{arith}
-use lib.ListN.{length}
 use lib.Dec.{eqb, ltb}
 use lib.Count.{trailingZeros}
-use borrow.Author.Tests.{eqb-true, ltb-false, eq-eqb, le-ltb}
+use borrow.Author.Tests.{eqb-true, eqb-false, ltb-true, ltb-false, eq-eqb, le-ltb}
 use Rattle.words.proofs.Bits.{On, empty-off}
 use Rattle.words.proofs.Laws.{lowest}
 use Rattle.rows.specs.Row.{rowCount}
-use Rattle.answer.specs.Outcome.{Outcome, refused, accepted}
+use Rattle.answer.specs.Outcome.{Outcome, refused}
 use Rattle.rules.specs.Table.{Table, Has, Within}
 use Rattle.rules.specs.Told.{Told, Closed}
 use Rattle.rules.specs.Gap.{Enlarges, gap}
 use Rattle.rules.proofs.Gap.{gap-lowest, gap-enlarges, no-gap-closed, closed-no-gap}
-use Rattle.format.specs.Reading.{Reading, readFile, Readable}
+use Rattle.format.specs.Reading.{Reading}
 use Rattle.program.specs.Program.{Program, Guest}
 use Rattle.analysis.specs.Rules.{rules}
 use Rattle.analysis.specs.Verdict.{leastTable, heldForbidden}
 use Rattle.analysis.proofs.Stated.{Declared}
-use Rattle.analysis.proofs.Proper.{AllProper, Proper, readable-proper}
+use Rattle.analysis.proofs.Proper.{AllProper, Proper}
 use Rattle.analysis.proofs.Fit.{proper-fits}
 use Rattle.analysis.proofs.Naming.{told-declared, told-in-rows}
 use Rattle.analysis.proofs.Least.{table-within}
 use Rattle.analysis.proofs.Held.{held-on, held-below}
-use Rattle.verdicts.specs.Verdict.{admitted, forbiddenHeld, programIn}
-use Rattle.verdicts.specs.Check.{cleaned, Lacks, checked, checkOutcome, Accepts}
+use Rattle.verdicts.specs.Verdict.{admitted, forbiddenHeld}
+use Rattle.verdicts.specs.Check.{cleaned, Lacks}
 use Rattle.verdicts.proofs.Cleaned.{cleaned-has, has-cleaned, cleaned-small}
 
 -- ---- what both operations refuse
@@ -40,20 +37,20 @@ pub admitted-readable : {A : Type 0} (L words : ℕ) (d : Reading) (refuse : ℕ
     → admitted L words d refuse a ≡ a
 admitted-readable L words d refuse a full ok = rw (le-ltb words (rowCount L) full, eq-eqb (d .refusal) 0 ok)
 
--- an outcome that is no refusal comes of a table of full size and a readable file
-pub record Admitted (L words : ℕ) (d : Reading) (a o : Outcome) : Type 0 where
-  pub full : rowCount L ≤ words
-  pub readable : d .refusal ≡ 0
-  pub same : a ≡ o
+-- the table is too short, the file is refused, or nothing is against them
+pub data Admission (L words : ℕ) (d : Reading) (a o : Outcome) : Type 0 where
+  short : words < rowCount L → o ≡ refused 8 0 → Admission L words d a o
+  unread : rowCount L ≤ words → (d .refusal ≡ 0 → ⊥) → o ≡ refused (d .refusal) (d .position) → Admission L words d a o
+  taken : rowCount L ≤ words → d .refusal ≡ 0 → o ≡ a → Admission L words d a o
 
-pub not-refused : (L words : ℕ) (d : Reading) (a : Outcome) (c : ℕ) → admitted L words d refused a ≡ accepted c → Admitted L words d a (accepted c)
-not-refused L words d a c = go (ltb words (rowCount L)) refl (eqb (d .refusal) 0) refl
+pub admission : (L words : ℕ) (d : Reading) (a : Outcome) → Admission L words d a (admitted L words d refused a)
+admission L words d a = go (ltb words (rowCount L)) refl (eqb (d .refusal) 0) refl
   where
     go : (x : Bool) → ltb words (rowCount L) ≡ x → (y : Bool) → eqb (d .refusal) 0 ≡ y
-        → cond x (refused 8 0) (cond y a (refused (d .refusal) (d .position))) ≡ accepted c → Admitted L words d a (accepted c)
-    go true p y q e = let z : _≡_ {A = ℕ} 0 1 = cc in absurd (omega arith)
-    go false p true q e = record { full = ltb-false _ _ p; readable = eqb-true _ _ q; same = e }
-    go false p false q e = let z : _≡_ {A = ℕ} 0 1 = cc in absurd (omega arith)
+        → Admission L words d a (cond x (refused 8 0) (cond y a (refused (d .refusal) (d .position))))
+    go true p y q = short (ltb-true _ _ p) refl
+    go false p true q = taken (ltb-false _ _ p) (eqb-true _ _ q) refl
+    go false p false q = unread (ltb-false _ _ p) (eqb-false _ _ q) refl
 
 -- ---- the forbidden labels in row 1
 
@@ -111,44 +108,3 @@ module _ (L : ℕ) (p : Program) (o : Proper L p) where
 
     pub closed-gap : Closed L (cleaned L (p .sheet) t) (rules L p) → gap L (cleaned L (p .sheet) t) (rules L p) ≡ rowCount L
     closed-gap = closed-no-gap L (cleaned L (p .sheet) t) (cleaned-small L (p .sheet) t) (rules L p) (proper-fits L p o)
-
--- ---- what is accepted
-
--- nothing in the check's list is against it
-pub record Acceptable (L : ℕ) (xs : List ℕ) (t : Table) : Type 0 where
-  pub full : rowCount L ≤ length t
-  pub readable : Readable L xs
-  pub closed : Closed L (cleaned L (programIn L xs .sheet) t) (rules L (programIn L xs))
-  pub clear : forbiddenHeld t (programIn L xs .guests) ≡ 0
-
-module _ (L : ℕ) (xs : List ℕ) (five : 5 ≤ L) (t : Table) where
-  pub accepted-acceptable : Accepts L xs t → Acceptable L xs t
-  unfolding checkOutcome checked
-  accepted-acceptable a =
-      let p = programIn L xs in
-      let m = not-refused L (length t) (readFile L xs) (checked L p t) 0 a in
-      go (m .full) (m .readable) (ltb (gap L (cleaned L (p .sheet) t) (rules L p)) (rowCount L)) refl (eqb (forbiddenHeld t (p .guests)) 0) refl (m .same)
-    where
-      p : Program
-      p = programIn L xs
-
-      go : rowCount L ≤ length t → Readable L xs → (x : Bool) → ltb (gap L (cleaned L (p .sheet) t) (rules L p)) (rowCount L) ≡ x
-          → (y : Bool) → eqb (forbiddenHeld t (p .guests)) 0 ≡ y
-          → cond x (refused 10 (gap L (cleaned L (p .sheet) t) (rules L p)))
-          (cond y (accepted 0) (refused 11 (trailingZeros L (forbiddenHeld t (p .guests))))) ≡ accepted 0 → Acceptable L xs t
-      go full ok true q y r e = let z : _≡_ {A = ℕ} 0 1 = cc in absurd (omega arith)
-      go full ok false q true r e =
-          record { full = full; readable = ok; closed = no-gap L p (readable-proper L xs five ok) t (ltb-false _ _ q); clear = eqb-true _ _ r }
-      go full ok false q false r e = let z : _≡_ {A = ℕ} 0 1 = cc in absurd (omega arith)
-
-  pub acceptable-accepted : Acceptable L xs t → Accepts L xs t
-  unfolding checkOutcome checked
-  acceptable-accepted a =
-      let p = programIn L xs in
-      let e = closed-gap L p (readable-proper L xs five (a .readable)) t (a .closed) in
-      admitted-readable L (length t) (readFile L xs) refused (checked L p t) (a .full) (a .readable)
-      ∙ rw (e, le-ltb (rowCount L) (rowCount L) (omega arith), eq-eqb (forbiddenHeld t (p .guests)) 0 (a .clear))
-
-  -- "as it does exactly where its list in document 01 has no refusal"
-  pub accepts-iff : Accepts L xs t ↔ Acceptable L xs t
-  accepts-iff = (accepted-acceptable, acceptable-accepted)

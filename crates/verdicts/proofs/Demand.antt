@@ -22,7 +22,8 @@ use Rattle.verdicts.specs.Verdict.{forbiddenHeld, programIn, judged, ver
 use Rattle.verdicts.specs.Check.{cleaned, Accepts}
 use Rattle.verdicts.proofs.Judged.{clear-confined, held-leaks, confined-clear, leaks-held}
 use Rattle.verdicts.proofs.Cleaned.{cleaned-has, has-cleaned}
-use Rattle.verdicts.proofs.Accept.{admitted-readable, none-held, accepted-acceptable, acceptable-accepted}
+use Rattle.verdicts.proofs.Accept.{admitted-readable, none-held}
+use Rattle.verdicts.proofs.Lists.{accepted-closed, closed-accepted}
 
 module _ (L : ℕ) (xs : List ℕ) (five : 5 ≤ L) (ok : Readable L xs) where
   proper : Proper L (programIn L xs)
@@ -43,13 +44,13 @@ module _ (L : ℕ) (xs : List ℕ) (five : 5 ≤ L) (ok : Readable L xs) where
   -- the least table lies within every accepted one, cleaned
   pub least-accepted : (u : Table) → Accepts L xs u
       → Within (leastTable L (programIn L xs)) (cleaned L (programIn L xs .sheet) u)
-  least-accepted u a = table-within L (programIn L xs) _ (accepted-acceptable L xs five u a .closed)
+  least-accepted u a = table-within L (programIn L xs) _ (accepted-closed L xs five u a .closed)
 
   accepted-clear : (u : Table) → Accepts L xs u → forbiddenHeld (leastTable L (programIn L xs)) (programIn L xs .guests) ≡ 0
   accepted-clear u a =
       let q = programIn L xs in
       none-held L q proper (leastTable L q) u (λ r l d z i h. has-cleaned L (q .sheet) u r l (least-accepted u a r l h) .given)
-      (accepted-acceptable L xs five u a .clear)
+      (accepted-closed L xs five u a .clear)
 
   -- whoever made it: an accepted table means confined
   pub accepted-confined : (u : Table) → Accepts L xs u → (words : ℕ) → rowCount L ≤ words → Confined (verdictOutcome L words xs)
@@ -89,7 +90,7 @@ module _ (L : ℕ) (xs : List ℕ) (five : 5 ≤ L) (ok : Readable L xs) where
     unfolding left
     clear-accepted e =
         let q = programIn L xs in
-        acceptable-accepted L xs five left (record {
+        closed-accepted L xs five left (record {
           full = rw length-append (omega (arith, table-length L q proper));
           readable = ok;
           closed = left-closed;

@@ -9,12 +9,13 @@ use borrow.Author.Tests.{eq-eqb, ne-eqb}
 use Rattle.words.proofs.Bits.{On, empty-off}
 use Rattle.words.proofs.Laws.{Lowest, lowest}
 use Rattle.answer.specs.Outcome.{confined, leaks}
-use Rattle.rules.specs.Table.{Table, Has, facts}
+use Rattle.rules.specs.Table.{Table, facts}
 use Rattle.format.specs.Sheet.{Sheet}
 use Rattle.program.specs.Program.{Program, Guest, guestsOf}
 use Rattle.analysis.specs.Verdict.{leastTable, heldForbidden}
 use Rattle.analysis.proofs.Held.{held-on, held-below}
 use Rattle.verdicts.specs.Verdict.{forbiddenHeld, judged, Leaks, Confined}
+use Rattle.verdicts.specs.Lists.{ForbiddenHeld, LowestForbidden}
 
 -- ---- the two outcomes of a program
 
@@ -47,16 +48,11 @@ module _ (L : ℕ) (p : Program) where
 
 -- ---- the lowest forbidden label in row 1
 
-pub record LowestForbidden (s : Sheet) (t : Table) (l : ℕ) : Type 0 where
-  pub held : Has t 1 l
-  pub forbidden : On (s .forbidden) l
-  pub least : (m : ℕ) → Has t 1 m → On (s .forbidden) m → l ≤ m
-
 -- there is none, exactly where the word of forbidden labels held is 0
-pub none-forbidden : (s : Sheet) (t : Table) → forbiddenHeld t (guestsOf s) ≡ 0 → (l : ℕ) → Has t 1 l → On (s .forbidden) l → ⊥
+pub none-forbidden : (s : Sheet) (t : Table) → forbiddenHeld t (guestsOf s) ≡ 0 → (l : ℕ) → ForbiddenHeld s t l → ⊥
 unfolding forbiddenHeld
-none-forbidden s t e l h f =
-    empty-off l (subst (λ (w : ℕ). On w l) e (held-on t (record { label = 3; bag = 1; key = 128; forbidden = s .forbidden }) l .1 (h, f)))
+none-forbidden s t e l h =
+    empty-off l (subst (λ (w : ℕ). On w l) e (held-on t (record { label = 3; bag = 1; key = 128; forbidden = s .forbidden }) l .1 h))
 
 pub lowest-forbidden : (L : ℕ) (s : Sheet) (t : Table) → s .forbidden < 2 ^ L → (forbiddenHeld t (guestsOf s) ≡ 0 → ⊥)
     → LowestForbidden s t (trailingZeros L (forbiddenHeld t (guestsOf s)))
@@ -64,8 +60,7 @@ unfolding forbiddenHeld
 lowest-forbidden L s t below d =
     let g : Guest = record { label = 3; bag = 1; key = 128; forbidden = s .forbidden } in
     let low = lowest L (heldForbidden t g) (held-below L t g below) (omega arith) in
-    let both = held-on t g (trailingZeros L (heldForbidden t g)) .0 (low .«in») in
-    record { held = both .0; forbidden = both .1; least = λ m h f. first g low m (held-on t g m .1 (h, f)) }
+    record { held = held-on t g (trailingZeros L (heldForbidden t g)) .0 (low .«in»); least = λ m h. first g low m (held-on t g m .1 h) }
   where
     first : (g : Guest) → Lowest (heldForbidden t g) L (trailingZeros L (heldForbidden t g)) → (m : ℕ) → On (heldForbidden t g) m
         → trailingZeros L (heldForbidden t g) ≤ m
@@ -74,3 +69,14 @@ lowest-forbidden L s t below d =
         go : Dec (m < trailingZeros L (heldForbidden t g)) → trailingZeros L (heldForbidden t g) ≤ m
         go (yes h) = absurd (omega (arith, low .least m h))
         go (no h) = omega arith
+
+pub forbidden-none : (L : ℕ) (s : Sheet) (t : Table) → s .forbidden < 2 ^ L → ((l : ℕ) → ForbiddenHeld s t l → ⊥) → forbiddenHeld t (guestsOf s) ≡ 0
+forbidden-none L s t below none = go (ℕ-discrete (forbiddenHeld t (guestsOf s)) 0)
+  where
+    go : Dec (forbiddenHeld t (guestsOf s) ≡ 0) → forbiddenHeld t (guestsOf s) ≡ 0
+    go (yes e) = e
+    go (no d) = absurd (none _ (lowest-forbidden L s t below d .held))
+
+-- there is one lowest label at most
+pub lowest-only : (s : Sheet) (t : Table) (l m : ℕ) → LowestForbidden s t l → LowestForbidden s t m → l ≡ m
+lowest-only s t l m a b = omega (arith, a .least m (b .held), b .least l (a .held))

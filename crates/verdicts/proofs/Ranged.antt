@@ -88,3 +88,6 @@ module _ (L : ℕ) (small : L ≤ 256) where
   pub verdict-word : (words words' : ℕ) (xs ys : List ℕ) → packed (verdictOutcome L words xs) ≡ packed (verdictOutcome L words' ys)
       → verdictOutcome L words xs ≡ verdictOutcome L words' ys
   verdict-word words words' xs ys e = packed-injective _ _ (verdict-ranged words xs) (verdict-ranged words' ys) e
+
+  pub check-word : (xs ys : List ℕ) (t u : Table) → packed (checkOutcome L xs t) ≡ packed (checkOutcome L ys u) → checkOutcome L xs t ≡ checkOutcome L ys u
+  check-word xs ys t u e = packed-injective _ _ (check-ranged xs t) (check-ranged ys u) e

@@ -3,7 +3,7 @@
 use mathlib.Core.Path.{_≡_}
 use mathlib.Core.List.{List, [], _∷_, _++_}
 use mathlib.Core.Bool.{cond}
-use Prim.Native.Nat.{ℕ}
+use Prim.Native.Nat.{ℕ, _≤_}
 use lib.ListN.{length, drop}
 use lib.Dec.{eqb, ltb}
 use lib.Count.{trailingZeros}
@@ -54,9 +54,12 @@ verdictTable L xs t =
     let u = leastTable L (programOf d) ++ drop (rowCount L) t in
     admitted L (length t) d (λ n at. t) u
 
--- the outcome is leaks; it is confined
+-- the outcome is leaks; it is confined; it is a refusal with a number from 1 to `most`
 abbrev pub Leaks : Outcome → Type 0
 Leaks o = (label count : ℕ) × (o ≡ leaks label count)
 
 abbrev pub Confined : Outcome → Type 0
 Confined o = (count : ℕ) × (o ≡ confined count)
+
+abbrev pub Refused : ℕ → Outcome → Type 0
+Refused most o = (n at : ℕ) × (1 ≤ n) × (n ≤ most) × (o ≡ refused n at)

@@ -1,0 +1,49 @@
+-- The lists of document 01, "What each operation says no to", line by line: said of the file and the table, and not of how an operation goes about
+-- it. L is the number of labels. Assumes nothing.
+use mathlib.Core.Path.{_≡_}
+use mathlib.Core.List.{List}
+use Prim.Native.Nat.{ℕ, _<_, _≤_}
+use lib.ListN.{length}
+use Rattle.words.specs.Words.{bit}
+use Rattle.rows.specs.Row.{rowCount}
+use Rattle.rules.specs.Table.{Table, Has}
+use Rattle.format.specs.Sheet.{Sheet}
+use Rattle.format.specs.Reading.{Readable}
+use Rattle.format.specs.Refusals.{BadFile}
+use Rattle.verdicts.specs.Verdict.{programIn}
+use Rattle.verdicts.specs.Check.{Lacks}
+
+-- the verdict, lent a table of so many words, refuses the file with n at position `at`: "8 (position 0) if the lent table has fewer than 2,432
+-- words; 9 .."
+pub data VerdictRefuses (L : ℕ) (xs : List ℕ) (words n at : ℕ) : Type 0 where
+  table-short : words < rowCount L → n ≡ 8 → at ≡ 0 → VerdictRefuses L xs words n at
+  file-bad : rowCount L ≤ words → BadFile L xs n at → VerdictRefuses L xs words n at
+
+-- one use of all rules would enlarge no row of the table
+abbrev pub NoneLacks : ℕ → List ℕ → Table → Type 0
+NoneLacks L xs t = (r : ℕ) → Lacks L (programIn L xs) t r → ⊥
+
+-- the sheet forbids label l, and row 1 holds it
+abbrev pub ForbiddenHeld : Sheet → Table → ℕ → Type 0
+ForbiddenHeld s t l = Has t 1 l × (bit (s .forbidden) l ≡ 1)
+
+-- "lowest forbidden label in row 1"
+pub record LowestForbidden (s : Sheet) (t : Table) (l : ℕ) : Type 0 where
+  pub held : ForbiddenHeld s t l
+  pub least : (m : ℕ) → ForbiddenHeld s t m → l ≤ m
+
+-- the check refuses: "the same with the same numbers, then 10 with the lowest row that one use of all rules would enlarge, then 11 (position: lowest
+-- forbidden label in row 1)"
+pub data CheckRefuses (L : ℕ) (xs : List ℕ) (t : Table) (n at : ℕ) : Type 0 where
+  same : VerdictRefuses L xs (length t) n at → CheckRefuses L xs t n at
+  row-lacks : rowCount L ≤ length t → Readable L xs → Lacks L (programIn L xs) t at → ((r : ℕ) → Lacks L (programIn L xs) t r → at ≤ r) → n ≡ 10
+      → CheckRefuses L xs t n at
+  label-held : rowCount L ≤ length t → Readable L xs → NoneLacks L xs t → LowestForbidden (programIn L xs .sheet) t at → n ≡ 11
+      → CheckRefuses L xs t n at
+
+-- nothing in the check's list is against the file and the table
+pub record Acceptable (L : ℕ) (xs : List ℕ) (t : Table) : Type 0 where
+  pub full-size : rowCount L ≤ length t
+  pub readable : Readable L xs
+  pub none-lacks : NoneLacks L xs t
+  pub none-held : (l : ℕ) → ForbiddenHeld (programIn L xs .sheet) t l → ⊥
