@@ -13,7 +13,12 @@ extern "C" {
 /* ---- the operations */
 
 /* Both take any bytes and any table, empty ones too: nothing has to be tested before a call. Lengths are in bytes and in words. A pointer may be
-   NULL where its length is 0. The answer is one word, to be read with the functions below. */
+   NULL where its length is 0; else it points to that many bytes or words, a table's pointer is aligned as a uint64_t is, and file and table do not
+   overlap. The answer is one word, to be read with the functions below.
+
+   A call keeps nothing from one call to the next and takes no memory but the stack, so threads may call at the same time, each with a table of its
+   own. The stack that a call takes is the same for every file: 77,584 bytes for a verdict, 45,696 for a check, as measured (bench/RESULTS.md). A thread
+   with less dies; PEZVORAN_STACK_BYTES is what the tests give one. */
 
 /* The verdict: confined, leaks or refused. Unless it refuses, the first PEZVORAN_TABLE_WORDS words of the table become the finished table, whatever
    stood there; words beyond stay as they are. A refusal leaves every word as it is. */
@@ -30,7 +35,8 @@ enum {
     PEZVORAN_VARIABLES = 256,
     PEZVORAN_LABELS = 64,
     PEZVORAN_NAMES = 32,
-    PEZVORAN_GUEST_ROW = 1 /* what the guest may hold */
+    PEZVORAN_GUEST_ROW = 1,       /* what the guest may hold */
+    PEZVORAN_STACK_BYTES = 98304 /* enough stack for a thread that calls either operation */
 };
 
 /* ---- an answer taken apart */

@@ -1,6 +1,7 @@
 //! The safe interface: both operations on small files, words of answers, kept tables, and the texts of the C header.
 
-use pezvoran::{check, verdict, Answer, Refusal, Table, FILE_BYTES, TABLE_WORDS};
+use pezvoran::{check, verdict, Answer, Refusal, Table, FILE_BYTES, STACK_BYTES, TABLE_WORDS};
+use std::thread;
 
 /// Label 5, forbidden; variable 2 holds it; the last record grants variable 2.
 const LEAKING: [u8; 15] = [2, 5, 1, 0, 3, 5, 5, 2, 0, 255, 8, 2, 5, 6, 2];
@@ -50,6 +51,28 @@ fn words_beyond_the_table_stay() {
 }
 
 #[test]
+fn threads_with_the_stated_stack_call_at_the_same_time() {
+    let judging = |file: &'static [u8], answer: Answer| {
+        let calls = move || {
+            let mut table = vec![0; TABLE_WORDS];
+            for _ in 0..100 {
+                assert_eq!(verdict(file, &mut table), answer);
+                assert_ne!(check(file, &table), refused(10, 0));
+            }
+        };
+        thread::Builder::new().stack_size(STACK_BYTES).spawn(calls).expect("a thread")
+    };
+    let threads = [
+        judging(&CONFINED, Answer::Confined { facts: 48 }),
+        judging(&LEAKING, Answer::Leaks { label: 5, facts: 148 }),
+        judging(&[], Answer::Confined { facts: 45 }),
+    ];
+    for thread in threads {
+        thread.join().expect("the answers are those of one thread");
+    }
+}
+
+#[test]
 fn rows_are_found_by_what_they_stand_for() {
     let mut table = Table::new();
     verdict(&LEAKING, &mut table);
@@ -95,5 +118,13 @@ fn the_texts_are_those_of_the_c_header() {
     for number in 0..16 {
         let text = Refusal { number, position: 0 }.text();
         assert!(header.contains(&format!("return \"{text}\";")), "{text}");
+    }
+}
+
+#[test]
+fn the_sizes_are_those_of_the_c_header() {
+    let header = include_str!("../../../include/pezvoran.h");
+    for (name, size) in [("TABLE_WORDS", TABLE_WORDS), ("FILE_BYTES", FILE_BYTES), ("STACK_BYTES", STACK_BYTES)] {
+        assert!(header.contains(&format!("PEZVORAN_{name} = {size}")), "{name}");
     }
 }
