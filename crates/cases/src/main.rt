@@ -1,6 +1,15 @@
 // A test of both operations: for each file of data/ prints the verdict, and what the check says of the table it left. The first eight are
 // document 01's listed files; the others use every kind of record. What must be printed comes from the second implementation
-// (`cargo run --example report_cases` in tests/second).
+// (`cargo run --example report_cases` in tests/second). Of a file that cannot be read nothing is printed, and a line on standard error says why.
+use input::Got;
+use libc::STDERR_FILENO;
+
+fn judge(file: &[u8]) -> bool {
+    let mut table = [0u64; 2432];
+    let answer = pezvoran::judge(file, &mut table);
+    let again = pezvoran::examine(file, &table);
+    report::print(answer, table[1]) && report::print(again, 0)
+}
 
 fn show(name: &[u8]) {
     let fd = os::open_read(name);
@@ -9,16 +18,26 @@ fn show(name: &[u8]) {
         return;
     }
     let mut file = [0u8; 32769];
-    let n = io::read_full(fd, &mut file);
+    let got = input::read_all(fd, &mut file);
+    match got {
+        Got::Read(n) => {
+            if !judge(&file[..n]) {
+                os::fail(b"cases: standard output");
+            }
+        }
+        Got::Failed => os::fail(name),
+    }
     libc::close(fd);
-    let mut table = [0u64; 2432];
-    let answer = pezvoran::judge(&file[..n], &mut table);
-    report::print(answer, table[1]);
-    let again = pezvoran::examine(&file[..n], &table);
-    report::print(again, 0);
 }
 
 fn main() {
+    if os::arg_count() > 1 {
+        io::write_all(
+            STDERR_FILENO,
+            b"usage: cases (in the folder that has its files)\n",
+        );
+        return;
+    }
     show(b"listed-1");
     show(b"listed-2");
     show(b"listed-3");

@@ -1,8 +1,14 @@
 // A test of the reader: prints what reading gives for each file of `data/cases`, and for files of 32,767 to 32,769 bytes. The cases are the edges of
 // every field of every kind, cut records and functions left out; they and what this program must print come from the reader in tests/second,
-// which was written from document 01 alone (`cargo run --example edge_cases` there).
+// which was written from document 01 alone (`cargo run --example edge_cases` there). Where they cannot be read nothing is printed, and a line on
+// standard error says why.
+use input::Got;
+use libc::STDERR_FILENO;
 use libc::STDOUT_FILENO;
 ghost use Prim.Native.Nat.{_<_};
+
+// One byte more than the cases may have.
+const MOST: usize = 262144;
 
 // What reading a file gives.
 fn show(file: &[u8]) {
@@ -42,19 +48,40 @@ fn show_all(cases: &[u8]) {
     }
 }
 
+// The files of the largest size, and of a byte less and more.
+fn show_sizes() {
+    let full = [3u8; 32769];
+    show(&full[..32767]);
+    show(&full[..32768]);
+    show(&full);
+}
+
 fn main() {
+    if os::arg_count() > 1 {
+        io::write_all(
+            STDERR_FILENO,
+            b"usage: edges (in the folder that has its file)\n",
+        );
+        return;
+    }
     let name = b"cases";
     let fd = os::open_read(name);
     if fd < 0 {
         os::fail(name);
         return;
     }
-    let mut cases = [0u8; 262144];
-    let n = io::read_full(fd, &mut cases);
+    let mut cases = [0u8; MOST];
+    let got = input::read_all(fd, &mut cases);
+    match got {
+        Got::Read(n) => {
+            if n == MOST {
+                io::write_all(STDERR_FILENO, b"cases: is too long\n");
+            } else {
+                show_all(&cases[..n]);
+                show_sizes();
+            }
+        }
+        Got::Failed => os::fail(name),
+    }
     libc::close(fd);
-    show_all(&cases[..n]);
-    let full = [3u8; 32769];
-    show(&full[..32767]);
-    show(&full[..32768]);
-    show(&full);
 }

@@ -1,52 +1,57 @@
 // What the programs print of an answer (document 01, "Listed files"). No contract can say what is written; the programs' `stdout` files hold it.
+// Each function answers whether all of it was written, and stops at the first write that fails; errno then says why.
 use answer::Answer;
 use libc::STDOUT_FILENO;
 
-fn print_label(l: u64) {
-    io::write_all(STDOUT_FILENO, b" ");
-    io::print_decimal(STDOUT_FILENO, l);
+fn print_text(text: &[u8]) -> bool {
+    io::write_all(STDOUT_FILENO, text)
+}
+
+fn print_number(n: u64) -> bool {
+    io::print_decimal(STDOUT_FILENO, n)
+}
+
+fn print_label(l: u64) -> bool {
+    print_text(b" ") && print_number(l)
 }
 
 // A set's labels, ascending, a space before each.
-fn print_labels(w: u64) {
+fn print_labels(w: u64) -> bool {
     for l in 0..64usize {
         if words::has(w, l) == 1 {
-            print_label(l as u64);
+            if !print_label(l as u64) {
+                return false;
+            }
         }
     }
+    true
 }
 
 // What the guest's bag may hold.
-fn print_guest(w: u64) {
-    io::write_all(STDOUT_FILENO, b"\nguest");
-    print_labels(w);
-    io::write_all(STDOUT_FILENO, b"\n");
+fn print_guest(w: u64) -> bool {
+    print_text(b"\nguest") && print_labels(w) && print_text(b"\n")
 }
 
 // The answer, and for a verdict the labels in the guest's bag.
-pub fn print(a: Answer, bag: u64) {
+pub fn print(a: Answer, bag: u64) -> bool {
     match a {
         Answer::Confined(count) => {
-            io::write_all(STDOUT_FILENO, b"confined ");
-            io::print_decimal(STDOUT_FILENO, count as u64);
-            print_guest(bag);
+            print_text(b"confined ") && print_number(count as u64) && print_guest(bag)
         }
         Answer::Leaks(label, count) => {
-            io::write_all(STDOUT_FILENO, b"leaks ");
-            io::print_decimal(STDOUT_FILENO, label as u64);
-            io::write_all(STDOUT_FILENO, b" ");
-            io::print_decimal(STDOUT_FILENO, count as u64);
-            print_guest(bag);
+            print_text(b"leaks ")
+                && print_number(label as u64)
+                && print_text(b" ")
+                && print_number(count as u64)
+                && print_guest(bag)
         }
         Answer::Refused(number, position) => {
-            io::write_all(STDOUT_FILENO, b"refused ");
-            io::print_decimal(STDOUT_FILENO, number as u64);
-            io::write_all(STDOUT_FILENO, b" ");
-            io::print_decimal(STDOUT_FILENO, position as u64);
-            io::write_all(STDOUT_FILENO, b"\n");
+            print_text(b"refused ")
+                && print_number(number as u64)
+                && print_text(b" ")
+                && print_number(position as u64)
+                && print_text(b"\n")
         }
-        Answer::Accepted => {
-            io::write_all(STDOUT_FILENO, b"accepted\n");
-        }
+        Answer::Accepted => print_text(b"accepted\n"),
     }
 }

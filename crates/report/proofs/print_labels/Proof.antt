@@ -19,6 +19,9 @@ has-requires c κs = search needs
 print-label-requires : tie.Need-print-label-requires Inv-loop μ-loop
 print-label-requires c κs = search needs
 
+returns : tie.Need-returns Inv-loop μ-loop
+returns c = search needs
+
 add-l : tie.Need-add-l Inv-loop μ-loop
 add-l c = search needs
 
@@ -28,8 +31,8 @@ loop-less c = search needs
 loop-again : tie.Need-loop-again Inv-loop μ-loop
 loop-again c = search needs
 
-returns : tie.Need-returns Inv-loop μ-loop
-returns c = search needs
+returns-2 : tie.Need-returns-2 Inv-loop μ-loop
+returns-2 c = search needs
 
 pub print-labels-spec : {M : Type 1} → statement M
 print-labels-spec =
@@ -40,7 +43,8 @@ print-labels-spec =
     loop-holds
     has-requires
     print-label-requires
+    returns
     add-l
     loop-less
     loop-again
-    returns)
+    returns-2)

@@ -1,0 +1,2 @@
+-- What a caller has of an answer. Assumes nothing.
+pub mod Reading

@@ -1,0 +1,2 @@
+-- What a count of bytes read promises.
+pub mod Within
