@@ -1,8 +1,8 @@
 -- Runs of `new`: its prototype, its arguments, what t and y get, what is returned from it. Assumes nothing.
 use mathlib.Core.Path.{refl}
 use mathlib.Core.List.{[], _∷_, _++_}
-use Rattle.machine.proofs.File.{plain, functionLabel, takes, function, variable, local, grant, property, held, load, store, makeFunction, call, new, return, throw, forbidden, journal}
-use Rattle.machine.proofs.Run.{guestMakeFunction, guestNew, guestCatch, host, atPair, picks, does, hands, grants, lends, loads, outcome, EndsWith}
+use Rattle.program.proofs.File.{plain, functionLabel, takes, function, variable, local, grant, property, held, load, store, makeFunction, call, new, return, throw, forbidden, journal}
+use Rattle.machine.proofs.Run.{guestMakeFunction, guestCall, guestNew, guestCatch, host, atPair, picks, does, hands, grants, lends, loads, outcome, EndsWith}
 
 -- the host makes the journal by `new` on a guest function, whose this it is; the bag also gets the six arguments
 pub new-on-guest : EndsWith
@@ -17,6 +17,20 @@ pub new-on-guest : EndsWith
     (3 ∷ 5 ∷ 6 ∷ 7 ∷ 8 ∷ 9 ∷ 10 ∷ 11 ∷ [])
 unfolding outcome
 new-on-guest = refl
+
+-- function 6 makes the journal by `new` on 7, in variables of its own
+pub new-in-a-function : EndsWith
+    (forbidden ++ (function 6 ∷ function 7 ∷ local 4 6 ∷ local 5 6 ∷ variable 3 ∷ variable 7 ∷ held 3 6 ∷ held 7 7 ∷
+    grant 3 ∷ new 6 4 7 5 5 [] ∷ return 6 4 ∷ return 6 5 ∷ []))
+    (grants 3 ∷
+    does guestCall 1 ∷  -- 6: frame 2
+    does (host (new 6 4 7 5 5 [])) 2 ∷  -- 7: frame 3
+    does (host (return 6 4)) 2 ∷
+    does (host (return 6 5)) 2 ∷
+    [])
+    (6 ∷ 5 ∷ 5 ∷ [])
+unfolding outcome
+new-in-a-function = refl
 
 -- t and y get the new object, the same one: the journal is stored in t and loaded from y
 pub new-in-both : EndsWith
@@ -71,11 +85,12 @@ pub found-by-number : EndsWith
 unfolding outcome
 found-by-number = refl
 
--- where nothing is under name 3, the prototype is Object.prototype
+-- where nothing is under name 3, the prototype is Object.prototype, and not Function.prototype
 pub nothing-found-by-new : EndsWith
-    (forbidden ++ (variable 3 ∷ variable 5 ∷ function 6 ∷ plain 8 ∷ property 1 10 5 ∷ held 3 6 ∷ new 0 0 3 5 8 [] ∷ grant 5 ∷ []))
+    (forbidden ++ (variable 3 ∷ variable 5 ∷ function 6 ∷ plain 8 ∷ property 1 10 5 ∷ property 2 11 8 ∷ held 3 6 ∷ new 0 0 3 5 8 [] ∷ grant 5 ∷ []))
     (does (host (new 0 0 3 5 8 [])) 0 ∷
     grants 5 ∷
+    loads 0 11 0 ∷
     loads 0 10 0 ∷
     [])
     (8 ∷ 5 ∷ [])
@@ -84,11 +99,12 @@ nothing-found-by-new = refl
 
 -- and so it is where a primitive is
 pub primitive-found-by-new : EndsWith
-    (forbidden ++ (variable 3 ∷ variable 5 ∷ function 6 ∷ plain 8 ∷ property 1 10 5 ∷ held 3 6 ∷
+    (forbidden ++ (variable 3 ∷ variable 5 ∷ function 6 ∷ plain 8 ∷ property 1 10 5 ∷ property 2 11 8 ∷ held 3 6 ∷
     store 0 3 3 0 ∷ new 0 0 3 5 8 [] ∷ grant 5 ∷ []))
     (atPair (host (store 0 3 3 0)) 0 [] 3 0 ∷
     does (host (new 0 0 3 5 8 [])) 0 ∷
     grants 5 ∷
+    loads 0 11 0 ∷
     loads 0 10 0 ∷
     [])
     (8 ∷ 5 ∷ [])

@@ -1,7 +1,7 @@
 -- Runs about where a variable is found: in the nearest frame, outward, of its owner scope, or in the global object. Assumes nothing.
 use mathlib.Core.Path.{refl}
 use mathlib.Core.List.{[], _∷_, _++_}
-use Rattle.machine.proofs.File.{plain, functionLabel, takes, function, variable, local, named, grant, property, held, copy, store, makeFunction, call, return, forbidden, journal}
+use Rattle.program.proofs.File.{plain, functionLabel, takes, function, variable, local, named, grant, property, held, copy, store, makeFunction, call, return, forbidden, journal}
 use Rattle.machine.proofs.Run.{guestCall, host, atPair, picks, does, grants, loads, outcome, EndsWith}
 
 -- a copy at the top level

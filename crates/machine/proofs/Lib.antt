@@ -1,5 +1,4 @@
 -- Runs of the machine, computed from files' bytes: what it does, and what it must not do.
-pub mod File
 pub mod Run
 pub mod Start
 pub mod Frames

@@ -1,8 +1,8 @@
 -- Runs of make, make function, load and store: prototypes by type, pairs, keys, and what is found along the prototypes. Assumes nothing.
 use mathlib.Core.Path.{refl}
 use mathlib.Core.List.{[], _∷_, _++_}
-use Rattle.machine.proofs.File.{name, plain, array, function, variable, grant, property, held, load, store, make, makeFunction, new, forbidden, journal}
-use Rattle.machine.proofs.Run.{host, atPair, does, grants, loads, outcome, EndsWith}
+use Rattle.program.proofs.File.{name, plain, functionLabel, array, takes, function, variable, local, grant, property, held, load, store, make, makeFunction, new, return, forbidden, journal}
+use Rattle.machine.proofs.Run.{guestCall, host, atPair, picks, does, grants, loads, outcome, EndsWith}
 
 -- the host makes the journal
 pub made : EndsWith
@@ -13,6 +13,18 @@ pub made : EndsWith
     (5 ∷ [])
 unfolding outcome
 made = refl
+
+-- function 6 makes it
+pub made-in-a-function : EndsWith
+    (forbidden ++ (function 6 ∷ local 4 6 ∷ variable 3 ∷ held 3 6 ∷ grant 3 ∷ make 6 4 5 ∷ return 6 4 ∷ []))
+    (grants 3 ∷
+    does guestCall 1 ∷  -- 6: frame 2
+    does (host (make 6 4 5)) 2 ∷
+    does (host (return 6 4)) 2 ∷
+    [])
+    (6 ∷ 5 ∷ [])
+unfolding outcome
+made-in-a-function = refl
 
 -- what the host makes takes the prototype of its type: a plain object that of label 1, a function that of label 2, an array that of label 4, and
 -- the q of a function that of label 1; each has its own name there
@@ -104,10 +116,10 @@ pub own-value-first : EndsWith
 unfolding outcome
 own-value-first = refl
 
--- a load on variable 0 starts from a fresh w, and finds the journal on its chain
+-- a load on variable 0 starts from a fresh w, and finds the journal on its chain, under any pair
 pub load-on-primitive : EndsWith
-    (forbidden ++ (plain 6 ∷ property 1 4 5 ∷ variable 2 ∷ load 0 2 0 4 6 ∷ grant 2 ∷ []))
-    (atPair (host (load 0 2 0 4 6)) 0 [] 4 0 ∷
+    (forbidden ++ (plain 6 ∷ property 1 4 6 ∷ property 1 4 5 ∷ variable 2 ∷ load 0 2 0 4 6 ∷ grant 2 ∷ []))
+    (atPair (host (load 0 2 0 4 6)) 0 [] 4 1 ∷
     grants 2 ∷
     [])
     (5 ∷ [])
@@ -149,6 +161,20 @@ pub any-number : EndsWith
     (6 ∷ 5 ∷ [])
 unfolding outcome
 any-number = refl
+
+-- function 6 loads the journal from its argument
+pub loaded-in-a-function : EndsWith
+    (forbidden ++ (functionLabel 6 ∷ plain 7 ∷ local 4 6 ∷ local 5 6 ∷ takes 6 0 (4 ∷ []) ∷ variable 3 ∷ variable 7 ∷ held 3 6 ∷ held 7 7 ∷
+    property 7 10 5 ∷ grant 3 ∷ grant 7 ∷ load 6 5 4 10 7 ∷ return 6 5 ∷ []))
+    (grants 3 ∷
+    grants 7 ∷
+    picks guestCall 1 (0 ∷ 0 ∷ 1 ∷ []) ∷  -- 6 with 7: frame 2
+    atPair (host (load 6 5 4 10 7)) 2 [] 10 0 ∷
+    does (host (return 6 5)) 2 ∷
+    [])
+    (6 ∷ 7 ∷ 5 ∷ [])
+unfolding outcome
+loaded-in-a-function = refl
 
 -- a store leaves what is under other pairs, and takes the place of what was under its own
 pub stored-beside : EndsWith

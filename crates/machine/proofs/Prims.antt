@@ -1,7 +1,7 @@
 -- Runs of prim: toString and valueOf, found as a load finds them and called with the object as this. Assumes nothing.
 use mathlib.Core.Path.{refl}
 use mathlib.Core.List.{[], _∷_, _++_}
-use Rattle.machine.proofs.File.{plain, functionLabel, takes, function, variable, local, grant, property, held, store, return, throw, catch, prim, journal}
+use Rattle.program.proofs.File.{plain, functionLabel, takes, function, variable, local, grant, property, held, store, return, throw, catch, prim, journal}
 use Rattle.machine.proofs.Run.{guestMakeFunction, guestCall, host, atPair, does, hands, grants, lends, outcome, EndsWith}
 
 -- prim on the journal calls the guest's toString, whose this it is; the arguments are primitives

@@ -1,30 +1,20 @@
 -- How a run is written down that antt is to compute: a file's records, a list of turns, and the labels of the objects that the guest holds
 -- afterwards. A turn names its statement by the record that says it. Assumes nothing.
 use mathlib.Core.Path.{_≡_}
-use mathlib.Core.List.{List, [], _∷_, _++_, map}
+use mathlib.Core.List.{List, [], _∷_, map}
 use mathlib.Core.Bool.{Bool, true, false, cond, _&&_}
 use Prim.Native.Nat.{ℕ, _+_, _^_}
 use lib.ListN.{length, getD}
 use lib.Dec.{eqb}
-use Rattle.words.specs.Words.{union, bit}
 use Rattle.rules.specs.Rule.{chosen}
-use Rattle.format.specs.Sheet.{start as emptySheet}
-use Rattle.format.specs.Fields.{good, refusalOf, firstBad}
-use Rattle.format.specs.Records.{misnamed, twice, after, wholeRefusal, bodyRefusal}
-use Rattle.format.specs.Reading.{recordRefusal, readOn, readFrom, lacking, finished, readFile}
 use Rattle.program.specs.Statement.{bag, statementsOf}
 use Rattle.program.specs.Program.{guestStatements, guestsStatements, hostStatements, programOf, statements, namesOf}
+use Rattle.program.proofs.File.{grant, reading}
 use Rattle.machine.specs.State.{labelsHeld}
 use Rattle.machine.specs.Step.{Move, act, hand, run}
 use Rattle.machine.specs.Start.{start}
-use Rattle.machine.proofs.File.{grant}
 
 -- ---- which statement
-
--- the bytes of a file
-abbrev pub bytes : List (List ℕ) → List ℕ
-bytes [] = []
-bytes (r ∷ rs) = r ++ bytes rs
 
 abbrev same : List ℕ → List ℕ → Bool
 same [] [] = true
@@ -148,9 +138,9 @@ pub record Outcome : Type 0 where
   pub held : List ℕ  -- the labels of the objects that the guest holds after the moves
 
 unfoldable pub outcome : List (List ℕ) → List Turn → Outcome
-unfolding readFile finished readFrom readOn recordRefusal lacking bodyRefusal wholeRefusal misnamed twice after firstBad good refusalOf emptySheet union programOf statements namesOf hostStatements statementsOf guestsStatements guestStatements chosen bit
+unfolding reading programOf statements namesOf hostStatements statementsOf guestsStatements guestStatements chosen
 outcome file turns =
-    let d = readFile 64 (bytes file) in
+    let d = reading file in
     let p = programOf d in
     let moves = map (λ turn. turn (before file)) turns in
     record { refusal = d .refusal; forbidden = d .sheet .forbidden; held = labelsHeld (run p moves (start p)) bag }

@@ -1,7 +1,7 @@
 -- Runs about the start of the machine, and about runs as such. Assumes nothing.
 use mathlib.Core.Path.{refl}
 use mathlib.Core.List.{[], _∷_, _++_}
-use Rattle.machine.proofs.File.{plain, array, function, variable, named, grant, property, held, store, return, forbidden, journal}
+use Rattle.program.proofs.File.{plain, array, function, variable, named, grant, property, held, store, return, forbidden, journal}
 use Rattle.machine.proofs.Run.{guestMakeFunction, guestCatch, host, atPair, does, hands, grants, loads, outcome, EndsWith}
 
 -- the empty run: the guest holds nothing

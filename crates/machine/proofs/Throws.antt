@@ -1,7 +1,7 @@
 -- Runs of throw and catch, and of values handed to the caller. Assumes nothing.
 use mathlib.Core.Path.{refl}
 use mathlib.Core.List.{[], _∷_, _++_}
-use Rattle.machine.proofs.File.{plain, function, variable, local, grant, held, call, return, throw, catch, journal}
+use Rattle.program.proofs.File.{plain, function, variable, local, grant, held, call, return, throw, catch, journal}
 use Rattle.machine.proofs.Run.{guestMakeFunction, guestCall, guestThrow, guestCatch, host, picks, does, catches, hands, grants, lends, outcome, EndsWith}
 
 -- 6 throws the journal, which is handed on and caught by the guest
@@ -64,6 +64,17 @@ pub caught-where-thrown : EndsWith
     (6 ∷ 5 ∷ 7 ∷ [])
 unfolding outcome
 caught-where-thrown = refl
+
+-- at the top level
+pub caught-at-the-top : EndsWith
+    (journal ++ (variable 3 ∷ throw 0 2 ∷ catch 0 3 ∷ grant 3 ∷ []))
+    (does (host (throw 0 2)) 0 ∷
+    does (host (catch 0 3)) 0 ∷
+    grants 3 ∷
+    [])
+    (5 ∷ [])
+unfolding outcome
+caught-at-the-top = refl
 
 -- any of the values thrown in a frame is handed on, the second before the first
 pub second-handed : EndsWith

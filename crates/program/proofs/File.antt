@@ -1,8 +1,13 @@
--- How the files of the runs are written down: for each kind of record a word that gives its bytes (document 01, "The statement file"). k is the
--- scope, 0 at the top level. Assumes nothing.
+-- How files are written down from which antt is to compute something: for each kind of record a word that gives its bytes (document 01, "The
+-- statement file"), and the reading of a list of them. k is the scope, 0 at the top level. Assumes nothing.
 use mathlib.Core.List.{List, [], _∷_, _++_}
 use Prim.Native.Nat.{ℕ}
 use lib.ListN.{take, replicate}
+use Rattle.words.specs.Words.{union, bit}
+use Rattle.format.specs.Sheet.{start}
+use Rattle.format.specs.Fields.{good, refusalOf, firstBad}
+use Rattle.format.specs.Records.{misnamed, twice, after, wholeRefusal, bodyRefusal}
+use Rattle.format.specs.Reading.{Reading, recordRefusal, readOn, readFrom, lacking, finished, readFile}
 
 -- ---- declarations
 
@@ -105,3 +110,13 @@ forbidden = plain 5 ∷ forbid 5 ∷ []
 -- listed file 3: variable 2 holds the journal
 abbrev pub journal : List (List ℕ)
 journal = forbidden ++ (variable 2 ∷ held 2 5 ∷ [])
+
+-- ---- the bytes, read
+
+abbrev bytes : List (List ℕ) → List ℕ
+bytes [] = []
+bytes (r ∷ rs) = r ++ bytes rs
+
+unfoldable pub reading : List (List ℕ) → Reading
+unfolding readFile finished readFrom readOn recordRefusal lacking bodyRefusal wholeRefusal misnamed twice after firstBad good refusalOf start union bit
+reading file = readFile 64 (bytes file)
