@@ -74,7 +74,7 @@ pub same-value : EndsWith
 unfolding outcome
 same-value = refl
 
--- 6 calls 7, whose result goes to variable 5 of 6; then 6 returns it
+-- 6 calls 7, whose result goes to variable 5 of 6 and not to the bag; then 6 returns it twice
 pub returned-to-result : EndsWith
     (journal ++ (variable 3 ∷ variable 4 ∷ function 6 ∷ function 7 ∷ local 5 6 ∷ held 3 6 ∷ held 4 7 ∷
     grant 3 ∷ call 6 5 4 0 [] ∷ return 7 2 ∷ return 6 5 ∷ []))
@@ -83,8 +83,9 @@ pub returned-to-result : EndsWith
     does (host (call 6 5 4 0 [])) 2 ∷  -- 7: frame 3
     does (host (return 7 2)) 3 ∷
     does (host (return 6 5)) 2 ∷
+    does (host (return 6 5)) 2 ∷
     [])
-    (6 ∷ 5 ∷ [])
+    (6 ∷ 5 ∷ 5 ∷ [])
 unfolding outcome
 returned-to-result = refl
 
@@ -99,8 +100,8 @@ pub two-callers : EndsWith
     picks guestCall 1 (0 ∷ 0 ∷ 2 ∷ []) ∷  -- 6 with 9: frame 3
     does (host (call 6 11 4 0 (10 ∷ []))) 2 ∷  -- 7: frame 4
     does (host (call 6 11 4 0 (10 ∷ []))) 3 ∷  -- 7: frame 5
-    does (host (return 7 12)) 5 ∷
     does (host (return 7 12)) 4 ∷
+    does (host (return 7 12)) 5 ∷
     does (host (return 6 11)) 3 ∷
     does (host (return 6 11)) 2 ∷
     [])

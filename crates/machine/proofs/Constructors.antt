@@ -111,12 +111,13 @@ pub primitive-found-by-new : EndsWith
 unfolding outcome
 primitive-found-by-new = refl
 
--- the prototype is fixed when the object is made: afterwards name 3 of the callee becomes something else
+-- the prototype is fixed when the object is made: afterwards name 3 of the callee becomes something else, and something is stored in the object
 pub prototype-fixed : EndsWith
     (forbidden ++ (variable 3 ∷ variable 4 ∷ variable 5 ∷ function 6 ∷ plain 7 ∷ plain 8 ∷ plain 9 ∷
-    property 6 3 7 ∷ property 7 10 5 ∷ property 9 11 8 ∷ held 3 6 ∷ held 4 9 ∷ new 0 0 3 5 8 [] ∷ store 0 3 3 4 ∷ grant 5 ∷ []))
+    property 6 3 7 ∷ property 7 10 5 ∷ property 9 11 8 ∷ held 3 6 ∷ held 4 9 ∷ new 0 0 3 5 8 [] ∷ store 0 3 3 4 ∷ store 0 5 12 4 ∷ grant 5 ∷ []))
     (does (host (new 0 0 3 5 8 [])) 0 ∷
     atPair (host (store 0 3 3 4)) 0 [] 3 0 ∷
+    atPair (host (store 0 5 12 4)) 0 [] 12 0 ∷
     grants 5 ∷
     loads 0 11 0 ∷  -- nothing: that is in the other one
     loads 0 10 0 ∷

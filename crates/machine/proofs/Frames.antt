@@ -1,8 +1,8 @@
 -- Runs about where a variable is found: in the nearest frame, outward, of its owner scope, or in the global object. Assumes nothing.
 use mathlib.Core.Path.{refl}
 use mathlib.Core.List.{[], _∷_, _++_}
-use Rattle.program.proofs.File.{plain, functionLabel, takes, function, variable, local, named, grant, property, held, copy, store, makeFunction, call, return, forbidden, journal}
-use Rattle.machine.proofs.Run.{guestCall, host, atPair, picks, does, grants, loads, outcome, EndsWith}
+use Rattle.program.proofs.File.{plain, functionLabel, takes, function, variable, local, named, grant, property, held, copy, store, makeFunction, call, new, return, throw, catch, prim, forbidden, journal}
+use Rattle.machine.proofs.Run.{guestMakeFunction, guestCall, host, atPair, picks, does, hands, grants, lends, loads, outcome, EndsWith}
 
 -- a copy at the top level
 pub copied : EndsWith
@@ -81,6 +81,31 @@ pub two-frames-of-one-scope : EndsWith
     (6 ∷ 7 ∷ 8 ∷ 8 ∷ 7 ∷ [])
 unfolding outcome
 two-frames-of-one-scope = refl
+
+-- every statement reads its fields from its own frame: 6 gets a function of the guest, the journal and an object 7 in variables of its own, and
+-- copies, stores, calls, uses `new`, throws and uses prim with these
+pub fields-in-own-frame : EndsWith
+    (journal ++ (functionLabel 6 ∷ plain 7 ∷ plain 9 ∷ local 4 6 ∷ local 5 6 ∷ local 8 6 ∷ local 10 6 ∷ local 11 6 ∷ takes 6 0 (4 ∷ 5 ∷ 8 ∷ []) ∷
+    variable 3 ∷ variable 6 ∷ variable 7 ∷ variable 12 ∷ held 6 6 ∷ held 7 7 ∷ grant 3 ∷ grant 12 ∷ call 0 0 6 0 (3 ∷ 2 ∷ 7 ∷ []) ∷
+    copy 6 10 5 ∷ store 6 8 20 10 ∷ call 6 0 4 8 (10 ∷ []) ∷ new 6 0 4 11 9 (8 ∷ []) ∷ throw 6 5 ∷ catch 0 12 ∷ store 6 8 1 4 ∷ prim 6 8 ∷ []))
+    (does guestMakeFunction 1 ∷
+    lends 3 0 ∷
+    does (host (call 0 0 6 0 (3 ∷ 2 ∷ 7 ∷ []))) 0 ∷  -- 6: frame 2
+    does (host (copy 6 10 5)) 2 ∷
+    atPair (host (store 6 8 20 10)) 2 [] 20 0 ∷
+    does (host (call 6 0 4 8 (10 ∷ []))) 2 ∷  -- the bag gets 7 and the journal
+    loads 1 20 0 ∷  -- and the journal from 7
+    does (host (new 6 0 4 11 9 (8 ∷ []))) 2 ∷  -- the new 9, and 7
+    does (host (throw 6 5)) 2 ∷
+    hands 2 0 ∷
+    does (host (catch 0 12)) 0 ∷
+    grants 12 ∷  -- the journal
+    atPair (host (store 6 8 1 4)) 2 [] 1 0 ∷
+    atPair (host (prim 6 8)) 2 [] 1 0 ∷  -- and 7
+    [])
+    (3 ∷ 7 ∷ 5 ∷ 5 ∷ 9 ∷ 7 ∷ 5 ∷ 7 ∷ [])
+unfolding outcome
+fields-in-own-frame = refl
 
 -- a function writes a variable of the top frame
 pub written-outward : EndsWith

@@ -108,6 +108,30 @@ pub caught-again : EndsWith
 unfolding outcome
 caught-again = refl
 
+-- where nothing was thrown, a catch leaves y as it is
+pub nothing-to-catch : EndsWith
+    (journal ++ (catch 0 2 ∷ grant 2 ∷ []))
+    (does (host (catch 0 2)) 0 ∷
+    grants 2 ∷
+    [])
+    (5 ∷ [])
+unfolding outcome
+nothing-to-catch = refl
+
+-- and nothing is handed on: what is thrown afterwards is the first that the guest's frame gets
+pub nothing-to-hand : EndsWith
+    (journal ++ (variable 3 ∷ function 6 ∷ held 3 6 ∷ grant 3 ∷ throw 6 2 ∷ []))
+    (grants 3 ∷
+    does guestCall 1 ∷  -- 6: frame 2
+    hands 2 0 ∷
+    does (host (throw 6 2)) 2 ∷
+    hands 2 0 ∷
+    does guestCatch 1 ∷
+    [])
+    (6 ∷ 5 ∷ [])
+unfolding outcome
+nothing-to-hand = refl
+
 -- the guest throws a value of its bag, the second one, in a function of its own that the host called; the host catches it at the top level and
 -- calls it with the journal
 pub guest-throws : EndsWith
