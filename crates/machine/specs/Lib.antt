@@ -1,4 +1,4 @@
--- The handset machine: its states, its lookups, its variables, its objects, its calls, its steps, its start, and how a run is written down.
+-- The handset machine: its states, its lookups, its variables, its objects, its calls, its steps and its start.
 pub mod State
 pub mod Lookup
 pub mod Variable
@@ -6,4 +6,3 @@ pub mod Property
 pub mod Call
 pub mod Step
 pub mod Start
-pub mod Run

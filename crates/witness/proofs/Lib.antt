@@ -1,4 +1,0 @@
--- The runs of specs/, computed.
-pub mod Calls
-pub mod Throws
-pub mod Objects

@@ -1,4 +1,0 @@
--- Files and runs that leak, each by one mechanism of the machine.
-pub mod Calls
-pub mod Throws
-pub mod Objects
