@@ -1,2 +1,16 @@
--- What the machine must not do, shown on runs.
+-- The laws of the machine: what a step can bring about, whatever the program, the state, the frame and the choice (Outward to Running), and what no
+-- step takes back (Grown). What it must not do, shown on runs (Refrains).
 pub mod Refrains
+pub mod Grown
+pub mod Outward
+pub mod Reading
+pub mod Writing
+pub mod Sparing
+pub mod Acting
+pub mod Said
+pub mod Making
+pub mod Moving
+pub mod Calling
+pub mod Building
+pub mod Leaving
+pub mod Running

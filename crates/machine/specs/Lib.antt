@@ -1,4 +1,5 @@
--- The handset machine: its states, its lookups, its variables, its objects, its calls, its steps, its start, and how a run is written down.
+-- The handset machine: its states, its lookups, its variables, its objects, its calls, its steps, its start, how a run is written down, and what its
+-- laws speak of.
 pub mod State
 pub mod Lookup
 pub mod Variable
@@ -7,3 +8,6 @@ pub mod Call
 pub mod Step
 pub mod Start
 pub mod Run
+pub mod Grown
+pub mod Seen
+pub mod Effect

@@ -12,13 +12,13 @@ use lib.Dec.{eqb}
 use Rattle.format.specs.Sheet.{builtIn}
 use Rattle.program.specs.Statement as say
 use Rattle.program.specs.Program.{Program, namesOf, isFunction, thisOf, formalsOf}
 use Rattle.machine.specs.State.{Value, primitive, object, Object, Caller, Frame, State, noObject, noFrame, objectAt, frameAt, orPrimitive, withObject, withFrame, setObject, setFrame, withBagged, withValue, withVariable, withThrown}
 use Rattle.machine.specs.Lookup.{nearestOf, findOf}
 use Rattle.machine.specs.Variable.{Place, nowhere, bag, named, local, placeOf, globalObject, read, readAll, writeIn, writePlace, write, writeAll}
 use Rattle.machine.specs.Property.{prototypeFor, fresh, next, loadFrom, storeTo}
-use Rattle.machine.specs.Call.{frameOf, callOf, newOf, primOf, returnTo, handTo}
+use Rattle.machine.specs.Call.{frameOf, enter, callOf, newOf, primOf, returnTo, handTo}
 use Rattle.machine.specs.Step.{Choice, Move, act, hand, member, primNames, grantOf, thrownIn, isThrown, perform, statementAt, makesSense, step, run}
-use Rattle.soundness.specs.Grown.{SameObject, SameFrame, Grown}
+use Rattle.machine.specs.Grown.{SameObject, SameFrame, Grown}
 
 same-object : (o : Object) → SameObject o o
 same-object o = record { same-label = refl; same-prototype = refl; same-kept = refl }
@@ -82,7 +82,7 @@ grown-object s o =
       bags-stay = λ b x m. m;
     }
 
-grown-frame : (s : State) (f : Frame) → Grown s (withFrame s f)
+pub grown-frame : (s : State) (f : Frame) → Grown s (withFrame s f)
 grown-frame s f =
     record {
       more-objects = omega arith;
@@ -114,7 +114,7 @@ grown-set-frame s i f h =
       bags-stay = λ b y m. m;
     }
 
-grown-thrown : (s : State) (i : ℕ) (x : Value) → Grown s (setFrame s i (withThrown (frameAt s i) x))
+pub grown-thrown : (s : State) (i : ℕ) (x : Value) → Grown s (setFrame s i (withThrown (frameAt s i) x))
 grown-thrown s i x =
     grown-set-frame s i (withThrown (frameAt s i) x)
     (record { same-scope = refl; same-outward = refl; same-caller = refl; thrown-stays = λ y m. Memᴰ·append-left (x ∷ []) m })
@@ -140,7 +140,7 @@ grown-cond false h k = k
 -- ---- each part of a step
 
 module _ (p : Program) where
-  grown-write : (s : State) (f v : ℕ) (x : Value) → Grown s (write p s f v x)
+  pub grown-write : (s : State) (f v : ℕ) (x : Value) → Grown s (write p s f v x)
   grown-write s f v x = go (placeOf p v)
     where
       at : (g : Option ℕ) → Grown s (writeIn s g v x)
@@ -155,7 +155,7 @@ module _ (p : Program) where
       go (named n) = grown-value s globalObject n 0 x
       go (local k) = at (nearestOf s f k)
 
-  grown-write-all : (s : State) (f : ℕ) (vs : List ℕ) (xs : List Value) → Grown s (writeAll p s f vs xs)
+  pub grown-write-all : (s : State) (f : ℕ) (vs : List ℕ) (xs : List Value) → Grown s (writeAll p s f vs xs)
   grown-write-all s f [] xs = grown-refl s
   grown-write-all s f (v ∷ vs) [] = grown-refl s
   grown-write-all s f (v ∷ vs) (x ∷ xs) = grown-trans (grown-write s f v x) (grown-write-all (write p s f v x) f vs xs)
@@ -172,17 +172,15 @@ module _ (p : Program) where
   grown-store s primitive a n j = grown-refl s
   grown-store s (object i) a n j = grown-cond (builtIn (p .sheet) (objectAt s i .label)) (grown-refl s) (grown-value s i n j a)
 
+  pub grown-enter : (s : State) (f y : ℕ) (byNew : Bool) (o : Object) (this : Value) (xs : List Value) → Grown s (enter p s f y byNew o this xs)
+  grown-enter s f y byNew o this xs =
+      grown-trans (grown-frame s (frameOf o f y byNew))
+      (grown-write-all (withFrame s (frameOf o f y byNew)) (length (s .frames)) (thisOf (p .sheet) (o .label) ∷ formalsOf (p .sheet) (o .label)) (this ∷ xs))
+
   grown-call : (s : State) (f y : ℕ) (byNew : Bool) (x this : Value) (xs : List Value) → Grown s (callOf p s f y byNew x this xs)
   grown-call s f y byNew primitive this xs = grown-refl s
   grown-call s f y byNew (object i) this xs =
-      let o = objectAt s i in
-      let s' = withFrame s (frameOf o f y byNew) in
-      let v = thisOf (p .sheet) (o .label) in
-      grown-cond (isFunction (p .sheet) (o .label))
-      (grown-trans (grown-frame s (frameOf o f y byNew))
-      (grown-trans (grown-write s' (length (s .frames)) v this)
-      (grown-write-all (write p s' (length (s .frames)) v this) (length (s .frames)) (formalsOf (p .sheet) (o .label)) xs)))
-      (grown-refl s)
+      grown-cond (isFunction (p .sheet) (objectAt s i .label)) (grown-enter s f y byNew (objectAt s i) this xs) (grown-refl s)
 
   grown-new : (s : State) (f y u l j : ℕ) (x : Value) (xs : List Value) → Grown s (newOf p s f y u l x j xs)
   grown-new s f y u l j primitive xs = grown-refl s
