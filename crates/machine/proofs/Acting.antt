@@ -11,7 +11,7 @@ use Rattle.program.specs.Statement as say
 use Rattle.program.specs.Program.{Program, noRecord, statements}
 use Rattle.machine.specs.State.{Value, State}
 use Rattle.machine.specs.Variable.{read, readAll}
-use Rattle.machine.specs.Step.{Choice, Move, act, scopeOf, member, perform, statementAt, step}
+use Rattle.machine.specs.Step.{Choice, act, scopeOf, member, perform, statementAt}
 use Rattle.machine.specs.Seen.{Reads, ReadsAll}
 use Rattle.machine.specs.Effect.{Says, In, Can}
 use Rattle.machine.proofs.Reading.{place-of, before, read-later, can-read, can-read-all}

@@ -1,7 +1,7 @@
 -- The law of new: for every program, state, frame and choice, what a step can bring about. Assumes nothing.
-use mathlib.Core.Path.{_≡_, refl, sym, ap, _∙_, subst}
-use mathlib.Core.List.{List, _∷_, List·Memᴰ·head, List·Memᴰ·tail}
-use mathlib.Core.Bool.{Bool, true}
+use mathlib.Core.Path.{_≡_, refl, ap, _∙_, subst}
+use mathlib.Core.List.{List, List·Memᴰ·head, List·Memᴰ·tail}
+use mathlib.Core.Bool.{true}
 use mathlib.Core.Option.{Option}
 use Prim.Native.Nat.{ℕ, _<_}
 use native.Mathlib.Omega.{arith}
@@ -10,7 +10,6 @@ use Rattle.format.specs.Sheet.{typeOf}
 use Rattle.program.specs.Statement as say
 use Rattle.program.specs.Program.{Program}
 use Rattle.machine.specs.State.{Value, object, Caller, State, objectAt, withObject}
-use Rattle.machine.specs.Lookup.{findOf}
 use Rattle.machine.specs.Variable.{globalObject, write}
 use Rattle.machine.specs.Property.{fresh, next}
 use Rattle.machine.specs.Call.{callOf, prototypeFound}

@@ -1,29 +1,28 @@
 -- Laws of call, new and prim: for every program, state, frame and choice, what a step can bring about. Assumes nothing.
 use mathlib.Core.Path.{_≡_, refl, sym, ap, _∙_}
 use mathlib.Core.Logic.{_⊎_, inl, inr}
-use mathlib.Core.List.{List, [], _∷_, _++_, List·Memᴰ, List·Memᴰ·head, List·Memᴰ·tail}
+use mathlib.Core.List.{List, [], _∷_}
 use mathlib.Core.Bool.{Bool, true, false}
 use mathlib.Core.Option.{Option, none, some}
-use Prim.Native.Nat.{ℕ, _≤_, _<_}
+use Prim.Native.Nat.{ℕ, _<_}
 use native.Mathlib.Omega.{arith}
-use lib.ListN.{length, replicate, length-set, length-append, List·getD-append}
+use lib.ListN.{length, replicate, length-set, length-append}
 use lib.Seq.{getD-append-seam}
 use Rattle.format.specs.Sheet.{typeOf}
 use Rattle.program.specs.Statement as say
-use Rattle.program.specs.Program.{Program, thisOf, formalsOf}
-use Rattle.machine.specs.State.{Value, primitive, object, Object, Caller, Frame, State, noFrame, objectAt, frameAt, withObject, withFrame}
-use Rattle.machine.specs.Lookup.{nearestOf, findOf}
+use Rattle.program.specs.Program.{Program}
+use Rattle.machine.specs.State.{Value, primitive, object, Object, Frame, State, noFrame, objectAt, withFrame}
+use Rattle.machine.specs.Lookup.{nearestOf}
 use Rattle.machine.specs.Variable.{Place, nowhere, bag, named, local, placeOf, writeIn, writePlace, write, writeAll}
-use Rattle.machine.specs.Property.{fresh, next}
-use Rattle.machine.specs.Call.{frameOf, enter, callOf, prototypeFound}
+use Rattle.machine.specs.Call.{frameOf, enter}
 use Rattle.machine.specs.Step.{member, primNames}
 use Rattle.machine.specs.Grown.{Grown}
-use Rattle.machine.specs.Seen.{Nearest, itself, outward, Finds, Holds, in-bag, in-global, in-frame, Reads, reads-nothing, variable-none, ReadsAll, Writable, to-bag, to-global, to-frame, Lasts, Gets}
+use Rattle.machine.specs.Seen.{Nearest, itself, outward, Finds, Reads, ReadsAll, Writable, to-bag, to-global, to-frame}
 use Rattle.machine.specs.Effect.{Says, In, Can, Spares, entering, Called}
-use Rattle.machine.proofs.Grown.{grown-refl, grown-trans, grown-object, grown-frame, grown-write, grown-write-all}
-use Rattle.machine.proofs.Outward.{begins-there, value-found}
+use Rattle.machine.proofs.Grown.{grown-frame, grown-write-all}
+use Rattle.machine.proofs.Outward.{value-found}
 use Rattle.machine.proofs.Reading.{can-read}
-use Rattle.machine.proofs.Writing.{nearest-there, nearest-stays, writable-stays, written, write-spares, write-all-spares, all-written}
+use Rattle.machine.proofs.Writing.{all-written}
 use Rattle.machine.proofs.Sparing.{spares-both, spares-frame, spares-write-all}
 use Rattle.machine.proofs.Acting.{fields, pair, acts, can-read-call}
 

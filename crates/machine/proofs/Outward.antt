@@ -6,7 +6,7 @@ use Prim.Native.Nat.{ℕ, zero, suc, _<_}
 use native.Mathlib.Omega.{arith}
 use borrow.Author.Tests.{eq-eqb, ne-eqb}
 use lib.ListN.{length}
-use Rattle.machine.specs.State.{Value, primitive, object, Object, Frame, State, objectAt, frameAt}
+use Rattle.machine.specs.State.{Value, primitive, object, Object, Frame, State, frameAt}
 use Rattle.machine.specs.Lookup.{nearest, nearestOf, find, findOf}
 use Rattle.machine.specs.Seen.{Nearest, itself, outward, nowhere, Finds, own, inherited, lacking}
 

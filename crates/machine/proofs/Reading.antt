@@ -1,19 +1,18 @@
 -- A statement can read from a variable whatever it holds, and of a bag any value ever put there. Assumes nothing.
-use mathlib.Core.Path.{_≡_, refl, sym, ap, _∙_}
+use mathlib.Core.Path.{_≡_, refl, sym, ap}
 use mathlib.Core.Logic.{_⊎_, inl, inr, ⊎-elim}
 use mathlib.Core.List.{List, [], _∷_, List·Memᴰ, List·Memᴰ·head, List·Memᴰ·tail, List·Memᴰ·cases-cons, List·Memᴰ·not-nil}
 use mathlib.Core.Bool.{Bool, true, false, _||_}
-use mathlib.Core.Option.{Option, none, some}
 use Prim.Native.Nat.{ℕ, zero, suc, _<_}
 use native.Mathlib.Omega.{arith}
 use native.Mathlib.Decide.{ℕ-discrete}
 use borrow.Author.Tests.{eq-eqb, ne-eqb}
 use lib.ListN.{length, getD}
 use lib.Dec.{eqb}
-use Rattle.format.specs.Sheet.{ownerOf, nameOf}
+use Rattle.format.specs.Sheet.{nameOf}
 use Rattle.program.specs.Program.{Program, Guest}
 use Rattle.machine.specs.State.{Value, primitive, State}
-use Rattle.machine.specs.Variable.{Place, nowhere, bag, named, local, isBag, placeOf, read, readAll}
+use Rattle.machine.specs.Variable.{bag, named, local, isBag, placeOf, read, readAll}
 use Rattle.machine.specs.Seen.{Bag, NoBag, Named, Local, Holds, in-bag, in-global, in-frame, Nothing, variable-none, bag-empty, no-pair, no-frame, Reads, reads-held, reads-nothing, ReadsAll, reads-none, reads-more}
 use Rattle.machine.proofs.Outward.{nearest-found}
 

@@ -4,7 +4,7 @@ use mathlib.Core.Path.{_≡_, refl, sym, ap, _∙_}
 use mathlib.Core.Logic.{_⊎_, inl, inr}
 use mathlib.Core.List.{List, [], _∷_, List·Memᴰ·head, List·Memᴰ·tail, Memᴰ·append-right}
 use mathlib.Core.Option.{Option, none, some}
-use Prim.Native.Nat.{ℕ, zero, suc, _<_}
+use Prim.Native.Nat.{ℕ, _<_}
 use native.Mathlib.Omega.{arith}
 use native.Mathlib.Decide.{ℕ-discrete, decLt}
 use borrow.Author.Tests.{eq-eqb, ne-eqb}
@@ -15,9 +15,9 @@ use Rattle.machine.specs.State.{Value, Object, Frame, State, noObject, n
 use Rattle.machine.specs.Lookup.{nearestOf}
 use Rattle.machine.specs.Variable.{globalObject, writeIn, write, writeAll}
 use Rattle.machine.specs.Grown.{Grown}
-use Rattle.machine.specs.Seen.{Nearest, itself, outward, nowhere, Bag, Named, Local, Holds, in-bag, in-global, in-frame, Writable, to-bag, to-global, to-frame, Apart, Lasts, Gets, gets-it, gets-later}
+use Rattle.machine.specs.Seen.{Nearest, itself, outward, nowhere, Bag, Named, Holds, in-bag, in-global, in-frame, Writable, to-bag, to-global, to-frame, Apart, Lasts, Gets, gets-it, gets-later}
 use Rattle.machine.proofs.Grown.{grown-write}
-use Rattle.machine.proofs.Outward.{starts-there, nearest-found}
+use Rattle.machine.proofs.Outward.{nearest-found}
 use Rattle.machine.proofs.Reading.{bag-place, named-place, local-place, Sort, is-none, is-a-bag, is-named, is-local, sort-of}
 
 -- ---- the nearest frame
