@@ -32,7 +32,7 @@ pub record SameNumber (s s' : State) : Type 0 where
   pub of-objects : length (s' .objects) ≡ length (s .objects)
   pub of-frames : length (s' .frames) ≡ length (s .frames)
 
-write-number : (p : Program) (s : State) (f v : ℕ) (x : Value) → SameNumber s (write p s f v x)
+pub write-number : (p : Program) (s : State) (f v : ℕ) (x : Value) → SameNumber s (write p s f v x)
 write-number p s f v x = go (placeOf p v)
   where
     at : (g : Option ℕ) → SameNumber s (writeIn s g v x)
@@ -62,7 +62,7 @@ nearest-was {s} w e (outward f g r l n q o d) =
     let z = w .same-frames f h in
     outward f g r h (λ i. n (z .same-scope ∙ i)) (sym (z .same-outward) ∙ q) o (nearest-was w e d)
 
-writable-was : {p : Program} {s s' : State} {f v : ℕ} → Grown s s' → SameNumber s s' → Writable p s' f v → Writable p s f v
+pub writable-was : {p : Program} {s s' : State} {f v : ℕ} → Grown s s' → SameNumber s s' → Writable p s' f v → Writable p s f v
 writable-was w e (to-bag b) = to-bag b
 writable-was w e (to-global n h l) = to-global n h (omega (arith, e .of-objects))
 writable-was w e (to-frame k g h q) = to-frame k g h (nearest-was w e q)

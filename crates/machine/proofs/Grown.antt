@@ -91,7 +91,7 @@ grown-frame s f =
       bags-stay = λ b x m. m;
     }
 
-grown-value : (s : State) (i n j : ℕ) (x : Value) → Grown s (setObject s i (withValue (objectAt s i) n j x))
+pub grown-value : (s : State) (i n j : ℕ) (x : Value) → Grown s (setObject s i (withValue (objectAt s i) n j x))
 grown-value s i n j x =
     record {
       more-objects = omega (arith, length-set (s .objects) i (withValue (objectAt s i) n j x));

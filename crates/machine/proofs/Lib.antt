@@ -1,5 +1,5 @@
--- The laws of the machine: what a step can bring about, whatever the program, the state, the frame and the choice (Outward to Running), and what no
--- step takes back (Grown). What it must not do, shown on runs (Refrains).
+-- The laws of the machine: what a step can bring about, whatever the program, the state, the frame and the choice (Outward to Running); what no step
+-- takes back (Grown); what stands at the start (Labels to Filling). What the machine must not do, shown on runs (Refrains).
 pub mod Refrains
 pub mod Grown
 pub mod Outward
@@ -14,3 +14,6 @@ pub mod Calling
 pub mod Building
 pub mod Leaving
 pub mod Running
+pub mod Labels
+pub mod Beginning
+pub mod Filling

@@ -25,7 +25,7 @@ use Rattle.machine.proofs.Acting.{prototypes, acts}
 
 -- ---- prototypes
 
-by-type : {t q : ℕ} → TypePrototype t q → prototypeOfType t ≡ object q
+pub by-type : {t q : ℕ} → TypePrototype t q → prototypeOfType t ≡ object q
 by-type plain = refl
 by-type function = refl
 by-type array = refl

@@ -11,3 +11,4 @@ pub mod Run
 pub mod Grown
 pub mod Seen
 pub mod Effect
+pub mod Begun
