@@ -2,7 +2,7 @@
 use mathlib.Core.Path.{_≡_, refl}
 use mathlib.Core.List.{[], _∷_, List·Memᴰ}
 use mathlib.Core.Bool.{true, false}
-use mathlib.Core.Option.{Option, none, some}
+use mathlib.Core.Option.{Option, none}
 use Prim.Native.Nat.{ℕ, _<_}
 use native.Mathlib.Omega.{arith}
 use borrow.Author.Tests.{eq-eqb}
@@ -11,10 +11,10 @@ use lib.Seq.{getD-set-same, getD-append-seam}
 use Rattle.format.specs.Sheet.{builtIn}
 use Rattle.program.specs.Statement as say
 use Rattle.program.specs.Program.{Program, namesOf}
-use Rattle.machine.specs.State.{Value, primitive, object, Object, State, noObject, objectAt, withObject, setObject, withValue}
+use Rattle.machine.specs.State.{Value, primitive, object, Object, State, noObject, objectAt, orPrimitive, withObject, setObject, withValue}
 use Rattle.machine.specs.Property.{prototypeFor, fresh}
 use Rattle.machine.specs.Seen.{Finds, own, inherited, lacking, Reads, Writable}
-use Rattle.machine.specs.Effect.{Says, In, Can, Put, Stored, Prototype}
+use Rattle.machine.specs.Effect.{Says, In, Can, Put, Gives, gives-found, gives-primitive, Stored, Prototype}
 use Rattle.machine.proofs.Grown.{grown-object}
 use Rattle.machine.proofs.Outward.{begins-there, value-found}
 use Rattle.machine.proofs.Reading.{before, can-read}
@@ -41,6 +41,10 @@ finds-from : {s : State} {n j q : ℕ} {r : Option Value} (o : Object) → o .va
 finds-from {s} {q = q} {r = r} o e e' d =
     let seam = getD-append-seam (s .objects) o [] noObject in
     inherited (length (s .objects)) q r (omega (arith, length-append (s .objects) (o ∷ []))) (rw seam e) (rw seam e') (begins-there d) (finds-more o d)
+
+given : {r : Option Value} {x : Value} → Gives r x → orPrimitive r ≡ x
+given (gives-found x) = refl
+given gives-primitive = refl
 
 -- ---- a value under a pair
 
@@ -70,38 +74,24 @@ module _ {p : Program} {s : State} {f k : ℕ} (here : In s f k) where
 
   -- ---- load
 
-  -- 17: "Load looks outward along the prototypes", under any name of the key and any number
-  pub load-finds : {y v key w i n j : ℕ} {x : Value} → Says p (say.load k y v key w) → Reads p s f v (object i) → List·Memᴰ n (namesOf (p .sheet) key)
-      → Finds s n j i (some x) → Writable p s f y → Can p s (λ s'. Put p s s' f y x)
-  load-finds {key = key} {n = n} {j = j} {x = x} says h m d w =
-      let r = can-read h in
-      acts says here refl (pair (λ j. r .0) n j 0) (λ i. rw (is-member n (namesOf (p .sheet) key) m, r .1, value-found d) (puts x w))
+  -- 17: "Load looks outward along the prototypes" under any name of the key and any number; "nothing found is a primitive"
+  pub load-loads : {y v key w i n j : ℕ} {r : Option Value} {x : Value} → Says p (say.load k y v key w) → Reads p s f v (object i)
+      → List·Memᴰ n (namesOf (p .sheet) key) → Finds s n j i r → Gives r x → Writable p s f y → Can p s (λ s'. Put p s s' f y x)
+  load-loads {key = key} {n = n} {j = j} {x = x} says h m d g w =
+      let c = can-read h in
+      acts says here refl (pair (λ j. c .0) n j 0) (λ _. rw (is-member n (namesOf (p .sheet) key) m, c .1, value-found d, given g) (puts x w))
 
-  -- "nothing found is a primitive"
-  pub load-finds-nothing : {y v key w i n j : ℕ} → Says p (say.load k y v key w) → Reads p s f v (object i) → List·Memᴰ n (namesOf (p .sheet) key)
-      → Finds s n j i none → Writable p s f y → Can p s (λ s'. Put p s s' f y primitive)
-  load-finds-nothing {key = key} {n = n} {j = j} says h m d w =
-      let r = can-read h in
-      acts says here refl (pair (λ j. r .0) n j 0) (λ i. rw (is-member n (namesOf (p .sheet) key) m, r .1, value-found d) (puts primitive w))
-
-  -- "on a primitive starting from a fresh object w": the prototype of w is one that an object of label w may take
-  pub load-on-primitive : {y v key w q n j : ℕ} {x : Value} → Says p (say.load k y v key w) → Reads p s f v primitive
-      → List·Memᴰ n (namesOf (p .sheet) key) → Prototype p w q → Finds s n j q (some x) → Writable p s f y → Can p s (λ s'. Put p s s' f y x)
-  load-on-primitive {key = key} {w = w} {q = q} {n = n} {j = j} {x = x} says h m t d a =
-      let r = can-read h in
-      let c = can-take t in
-      let o = fresh w (prototypeFor p w (c .0)) f in
-      acts says here refl (pair (λ j. r .0) n j (c .0))
-      (λ i. rw (is-member n (namesOf (p .sheet) key) m, r .1, value-found (finds-from o refl (c .1) d)) (put-since (grown-object s o) (spares-object s o) (puts x (writable-stays (grown-object s o) a))))
-
-  pub load-on-primitive-nothing : {y v key w q n j : ℕ} → Says p (say.load k y v key w) → Reads p s f v primitive
-      → List·Memᴰ n (namesOf (p .sheet) key) → Prototype p w q → Finds s n j q none → Writable p s f y → Can p s (λ s'. Put p s s' f y primitive)
-  load-on-primitive-nothing {key = key} {w = w} {q = q} {n = n} {j = j} says h m t d a =
-      let r = can-read h in
-      let c = can-take t in
-      let o = fresh w (prototypeFor p w (c .0)) f in
-      acts says here refl (pair (λ j. r .0) n j (c .0))
-      (λ i. rw (is-member n (namesOf (p .sheet) key) m, r .1, value-found (finds-from o refl (c .1) d)) (put-since (grown-object s o) (spares-object s o) (puts primitive (writable-stays (grown-object s o) a))))
+  -- "on a primitive starting from a fresh object w", whose prototype is any that an object of label w may take
+  pub load-on-primitive : {y v key w q n j : ℕ} {r : Option Value} {x : Value} → Says p (say.load k y v key w) → Reads p s f v primitive
+      → List·Memᴰ n (namesOf (p .sheet) key) → Prototype p w q → Finds s n j q r → Gives r x → Writable p s f y → Can p s (λ s'. Put p s s' f y x)
+  load-on-primitive {key = key} {w = w} {n = n} {j = j} {x = x} says h m t d g a =
+      let c = can-read h in
+      let q = can-take t in
+      let o = fresh w (prototypeFor p w (q .0)) f in
+      let put = puts x (writable-stays (grown-object s o) a) in
+      acts says here refl (pair (λ j. c .0) n j (q .0))
+      (λ _.
+      rw (is-member n (namesOf (p .sheet) key) m, c .1, value-found (finds-from o refl (q .1) d), given g) (put-since (grown-object s o) (spares-object s o) put))
 
   -- ---- store
 

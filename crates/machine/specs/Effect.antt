@@ -53,6 +53,11 @@ pub record Put (p : Program) (s s' : State) (f y : ℕ) (x : Value) : Type 0 whe
   pub holds-it : Holds p s' f y x
   pub spares : Spares p s s' (y ∷ [])
 
+-- what a load gives: what it found; "nothing found is a primitive"
+pub data Gives : Option Value → Value → Type 0 where
+  gives-found : (x : Value) → Gives (some x) x
+  gives-primitive : Gives none primitive
+
 -- x was put under (n, j) of object i
 pub record Stored (s s' : State) (i n j : ℕ) (x : Value) : Type 0 where
   pub stored : objectAt s' i .values n j ≡ some x
