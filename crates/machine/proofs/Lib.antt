@@ -1,5 +1,6 @@
 -- The laws of the machine: what a step can bring about, whatever the program, the state, the frame and the choice (Outward to Running); what no step
--- takes back (Grown); what stands at the start (Labels to Filling); and some of them put together (Granted). What the machine must not do, shown on runs (Refrains).
+-- takes back (Grown); what stands at the start (Labels to Filling); and some of them put together (Granted). What the machine must not do, shown on
+-- runs (Refrains).
 pub mod Refrains
 pub mod Grown
 pub mod Outward

@@ -8,14 +8,15 @@ use Prim.Native.Nat.{ℕ, _<_}
 use native.Mathlib.Omega.{arith}
 use native.Mathlib.Decide.{ℕ-discrete, decLt}
 use borrow.Author.Tests.{eq-eqb, ne-eqb}
-use lib.ListN.{length, getD, set}
+use lib.ListN.{length, getD, set, length-set}
 use lib.Seq.{getD-set-same, getD-set-other, set-out}
 use Rattle.program.specs.Program.{Program}
 use Rattle.machine.specs.State.{Value, Object, Frame, State, noObject, noFrame, objectAt, frameAt, setObject, withValue, withVariable}
 use Rattle.machine.specs.Lookup.{nearestOf}
-use Rattle.machine.specs.Variable.{globalObject, writeIn, write, writeAll}
+use Rattle.machine.specs.Variable.{Place, nowhere, bag, named, local, placeOf, globalObject, writeIn, writePlace, write, writeAll}
 use Rattle.machine.specs.Grown.{Grown}
-use Rattle.machine.specs.Seen.{Nearest, itself, outward, nowhere, Bag, Named, Holds, in-bag, in-global, in-frame, Writable, to-bag, to-global, to-frame, Apart, Lasts, Gets, gets-it, gets-later}
+use Rattle.machine.specs.Seen as seen
+use Rattle.machine.specs.Seen.{Nearest, itself, outward, Bag, Named, Holds, in-bag, in-global, in-frame, Writable, to-bag, to-global, to-frame, Apart, Lasts, Gets, gets-it, gets-later}
 use Rattle.machine.proofs.Grown.{grown-write}
 use Rattle.machine.proofs.Outward.{nearest-found}
 use Rattle.machine.proofs.Reading.{bag-place, named-place, local-place, Sort, is-none, is-a-bag, is-named, is-local, sort-of}
@@ -32,9 +33,9 @@ nearest-stays w (itself f l e) = itself f (omega (arith, w .more-frames)) (w .sa
 nearest-stays w (outward f g r l n e o h) =
     let q = w .same-frames f l in
     outward f g r (omega (arith, w .more-frames)) (λ z. n (sym (q .same-scope) ∙ z)) (q .same-outward ∙ e) o (nearest-stays w h)
-nearest-stays w (nowhere f l n e) =
+nearest-stays w (seen.nowhere f l n e) =
     let q = w .same-frames f l in
-    nowhere f (omega (arith, w .more-frames)) (λ z. n (sym (q .same-scope) ∙ z)) (q .same-outward ∙ e)
+    seen.nowhere f (omega (arith, w .more-frames)) (λ z. n (sym (q .same-scope) ∙ z)) (q .same-outward ∙ e)
 
 -- what can be written can be written later
 pub writable-stays : {p : Program} {s s' : State} {f v : ℕ} → Grown s s' → Writable p s f v → Writable p s' f v
@@ -130,3 +131,44 @@ pub all-written : {p : Program} {f v : ℕ} {x : Value} {vs : List ℕ} {xs : Li
 all-written {p} {f} {v} {x} s (gets-it vs xs a) w = write-all-spares (write p s f v x) f vs xs a (written x w)
 all-written {p} {f} s (gets-later u y vs xs h) w =
     all-written (write p s f u y) h (writable-stays (grown-write p s f u y) w)
+
+-- ---- what was there before some writes
+
+pub record SameNumber (s s' : State) : Type 0 where
+  pub of-objects : length (s' .objects) ≡ length (s .objects)
+  pub of-frames : length (s' .frames) ≡ length (s .frames)
+
+pub write-number : (p : Program) (s : State) (f v : ℕ) (x : Value) → SameNumber s (write p s f v x)
+write-number p s f v x = go (placeOf p v)
+  where
+    at : (g : Option ℕ) → SameNumber s (writeIn s g v x)
+    at none = record { of-objects = refl; of-frames = refl }
+    at (some g) = record { of-objects = refl; of-frames = length-set (s .frames) g _ }
+
+    go : (q : Place) → SameNumber s (writePlace q s f v x)
+    go nowhere = record { of-objects = refl; of-frames = refl }
+    go bag = record { of-objects = refl; of-frames = refl }
+    go (named n) = record { of-objects = length-set (s .objects) _ _; of-frames = refl }
+    go (local k) = at (nearestOf s f k)
+
+pub write-all-number : (p : Program) (s : State) (f : ℕ) (vs : List ℕ) (xs : List Value) → SameNumber s (writeAll p s f vs xs)
+write-all-number p s f [] xs = record { of-objects = refl; of-frames = refl }
+write-all-number p s f (v ∷ vs) [] = record { of-objects = refl; of-frames = refl }
+write-all-number p s f (v ∷ vs) (x ∷ xs) =
+    let a = write-number p s f v x in
+    let b = write-all-number p (write p s f v x) f vs xs in
+    record { of-objects = b .of-objects ∙ a .of-objects; of-frames = b .of-frames ∙ a .of-frames }
+
+nearest-was : {s s' : State} {k f g : ℕ} → Grown s s' → SameNumber s s' → Nearest s' k f (some g) → Nearest s k f (some g)
+nearest-was {s} w e (itself f l q) =
+    let h : f < length (s .frames) = omega (arith, e .of-frames) in
+    itself f h (sym (w .same-frames f h .same-scope) ∙ q)
+nearest-was {s} w e (outward f g r l n q o d) =
+    let h : f < length (s .frames) = omega (arith, e .of-frames) in
+    let z = w .same-frames f h in
+    outward f g r h (λ i. n (z .same-scope ∙ i)) (sym (z .same-outward) ∙ q) o (nearest-was w e d)
+
+pub writable-was : {p : Program} {s s' : State} {f v : ℕ} → Grown s s' → SameNumber s s' → Writable p s' f v → Writable p s f v
+writable-was w e (to-bag b) = to-bag b
+writable-was w e (to-global n h l) = to-global n h (omega (arith, e .of-objects))
+writable-was w e (to-frame k g h q) = to-frame k g h (nearest-was w e q)

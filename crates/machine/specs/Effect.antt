@@ -2,14 +2,14 @@
 -- bring something about, and what an object made or a function called comes to. Assumes nothing.
 use mathlib.Core.Path.{_≡_}
 use mathlib.Core.List.{List, [], _∷_, List·Memᴰ}
-use mathlib.Core.Bool.{true}
+use mathlib.Core.Bool.{Bool, true}
 use mathlib.Core.Option.{Option, none, some}
 use Prim.Native.Nat.{ℕ, _≤_, _<_}
 use lib.ListN.{length, replicate}
 use Rattle.format.specs.Sheet.{typeOf}
 use Rattle.program.specs.Statement.{Statement, load, store, makeFunction, call, new, return, throw, catch}
 use Rattle.program.specs.Program.{Program, Guest, statements, thisOf, formalsOf}
-use Rattle.machine.specs.State.{Value, primitive, object, Caller, State, objectAt, frameAt}
+use Rattle.machine.specs.State.{Value, primitive, object, State, objectAt, frameAt}
 use Rattle.machine.specs.Property.{objectPrototype, functionPrototype, arrayPrototype}
 use Rattle.machine.specs.Variable.{globalObject}
 use Rattle.machine.specs.Step.{Move, step}
@@ -104,23 +104,23 @@ pub data Takes : Option Value → ℕ → Type 0 where
 abbrev pub entering : Program → ℕ → List ℕ
 entering p l = thisOf (p .sheet) l ∷ formalsOf (p .sheet) l
 
--- a function of label l that keeps frame o was called: "Each call makes a frame with its caller and y"; outward of it is the frame that the function
--- keeps; its this variable and its formals get this and the arguments
-pub record Called (p : Program) (s s' : State) (l o : ℕ) (caller : Caller) (this : Value) (arguments : List Value) : Type 0 where
+-- function object i was called from frame f with y: "Each call makes a frame with its caller and y"; outward of it is the frame that the function keeps;
+-- its this variable and its formals get this and the arguments
+pub record Called (p : Program) (s s' : State) (i f y : ℕ) (byNew : Bool) (this : Value) (arguments : List Value) : Type 0 where
   pub frame : ℕ
   pub was-not-there : length (s .frames) ≤ frame
   pub is-there : frame < length (s' .frames)
-  pub scope-is : frameAt s' frame .scope ≡ l
-  pub outward-is : frameAt s' frame .outward ≡ some o
-  pub caller-is : frameAt s' frame .caller ≡ some caller
-  pub passed : (v : ℕ) (x : Value) → Gets p v x (entering p l) (this ∷ arguments) → Writable p s' frame v → Holds p s' frame v x
+  pub scope-is : frameAt s' frame .scope ≡ objectAt s i .label
+  pub outward-is : frameAt s' frame .outward ≡ some (objectAt s i .kept)
+  pub caller-is : frameAt s' frame .caller ≡ some (record { frame = f; result = y; byNew = byNew })
+  pub passed : (v : ℕ) (x : Value) → Gets p v x (entering p (objectAt s i .label)) (this ∷ arguments) → Writable p s' frame v → Holds p s' frame v x
 
--- such a function was called by new from frame f: "t and y get the new object", of label m and with prototype q; t keeps it unless y, this or a formal
+-- function object i was called by new from frame f: "t and y get the new object", of label l and with prototype q; t keeps it unless y, this or a formal
 -- is written over it, and y unless this or a formal is
-pub record Built (p : Program) (s s' : State) (f y t m q l o : ℕ) (arguments : List Value) : Type 0 where
+pub record Built (p : Program) (s s' : State) (i f y t l q : ℕ) (arguments : List Value) : Type 0 where
   pub new-object : ℕ
-  pub made : Made s s' new-object f m q none
-  pub in-t : Lasts p t (y ∷ entering p l) → Writable p s f t → Holds p s' f t (object new-object)
-  pub in-y : Lasts p y (entering p l) → Writable p s f y → Holds p s' f y (object new-object)
-  pub called : Called p s s' l o (record { frame = f; result = y; byNew = true }) (object new-object) arguments
-  pub spares : Spares p s s' (t ∷ y ∷ entering p l)
+  pub made : Made s s' new-object f l q none
+  pub in-t : Lasts p t (y ∷ entering p (objectAt s i .label)) → Writable p s f t → Holds p s' f t (object new-object)
+  pub in-y : Lasts p y (entering p (objectAt s i .label)) → Writable p s f y → Holds p s' f y (object new-object)
+  pub called : Called p s s' i f y true (object new-object) arguments
+  pub spares : Spares p s s' (t ∷ y ∷ entering p (objectAt s i .label))
