@@ -1,4 +1,5 @@
--- The handset machine: its states, its lookups, its variables, its objects, its calls, its steps and its start.
+-- The handset machine: its states, its lookups, its variables, its objects, its calls, its steps and its start; and what its laws speak of (Grown to
+-- Begun), which nobody has to believe.
 pub mod State
 pub mod Lookup
 pub mod Variable
@@ -6,3 +7,7 @@ pub mod Property
 pub mod Call
 pub mod Step
 pub mod Start
+pub mod Grown
+pub mod Seen
+pub mod Effect
+pub mod Begun

@@ -10,14 +10,14 @@ use Rattle.format.specs.Sheet.{typeOf}
 use Rattle.format.specs.Reading.{readFile, Readable}
 use Rattle.format.proofs.Readable.{readable-ready}
 use Rattle.program.specs.Program.{Program, Guest, programOf}
-use Rattle.machine.specs.State.{primitive, object, State, objectIn, frameIn, objectAt, withValue}
-use Rattle.machine.specs.Property.{prototypeOfType, fresh}
+use Rattle.machine.specs.State.{primitive, object, State, frameIn, objectAt, withValue}
+use Rattle.machine.specs.Property.{prototypeOfType}
 use Rattle.machine.specs.Step.{Move, run}
 use Rattle.machine.specs.Start.{Filling, property, held, nothing, fillings, firstLabels, startLabels, placeIn, startPrototype, startObjects, guestFrames, unfilled, numberAmong, fillOne, fill, start}
 use Rattle.soundness.specs.Founded.{ObjectBelow, primitive-below, object-below, no-frame-below, frame-below, no-caller-below, FrameFounded, Founded}
 use Rattle.soundness.proofs.Values.{Keeps, keeps-refl, keeps-trans, keeps-set}
 use Rattle.soundness.proofs.Variables.{write-untouched}
-use Rattle.soundness.proofs.Start.{Named, property-named, held-named, place-of, length-start, fillings-begin, fillings-named}
+use Rattle.machine.proofs.Labels.{Listed, property-listed, held-listed, place-of, length-start, object-is, fillings-begin, fillings-listed}
 use Rattle.soundness.proofs.Founded.{founded-value}
 use Rattle.soundness.proofs.FoundedSteps.{write-founded, prototype-below, bare-founded}
 use Rattle.soundness.proofs.FoundedRuns.{run-founded}
@@ -31,11 +31,6 @@ pub record FirstPlain (p : Program) : Type 0 where
 module _ (p : Program) (plain : FirstPlain p) where
   abbrev ls : List ℕ
   ls = startLabels p
-
-  object-is : (ms : List ℕ) (i : ℕ) → i < length ms → objectIn (startObjects p ms) i ≡ fresh (getD ms i 0) (startPrototype p (getD ms i 0)) 0
-  object-is [] i h = absurd (omega arith)
-  object-is (m ∷ ms) zero h = refl
-  object-is (m ∷ ms) (suc i) h = object-is ms i (omega arith)
 
   first-is : (i : ℕ) → i < 4 → getD ls i 0 ≡ getD firstLabels i 0
   first-is i h = fillings-begin firstLabels (fillings p) .same i h
@@ -72,7 +67,7 @@ module _ (p : Program) (plain : FirstPlain p) where
   unfilled-founded =
       record {
         four-objects = omega (arith, fillings-begin firstLabels (fillings p) .longer, length-start p ls);
-        objects-founded = λ i h. rw (object-is ls i (omega (arith, length-start p ls))) (bare-founded p _ _ i (getD ls i 0) 0 _ (prototype-before i) (omega arith));
+        objects-founded = λ i h. rw (object-is p ls i (omega (arith, length-start p ls))) (bare-founded p _ _ i (getD ls i 0) 0 _ (prototype-before i) (omega arith));
         frames-founded = frame;
         bags-there = λ b x m. absurd (List·Memᴰ·not-nil m);
       }
@@ -91,21 +86,21 @@ module _ (p : Program) (plain : FirstPlain p) where
       → ObjectBelow (length (s .objects)) (object (placeIn ls l))
   placed-below s h l m = object-below (placeIn ls l) (omega (arith, place-of l ls m .0, length-start p ls))
 
-  fill-one : (earlier : List Filling) (s : State) (x : Filling) → Founded s → Keeps (startObjects p ls) (s .objects) → Named ls x
+  fill-one : (earlier : List Filling) (s : State) (x : Filling) → Founded s → Keeps (startObjects p ls) (s .objects) → Listed ls x
       → Founded (fillOne p ls earlier s x) × Keeps (startObjects p ls) (fillOne p ls earlier s x .objects)
-  fill-one earlier s (property l n m) d k (property-named _ _ _ hl hm) =
+  fill-one earlier s (property l n m) d k (property-listed _ _ _ hl hm) =
       let i = placeIn ls l in
       let j = numberAmong l n earlier in
       let x = object (placeIn ls m) in (
         founded-value s i n j x d (placed-below s (k .longer) m hm),
         keeps-trans k (keeps-set (s .objects) i (withValue (objectAt s i) n j x) refl),
       )
-  fill-one earlier s (held v l) d k (held-named _ _ h) =
+  fill-one earlier s (held v l) d k (held-listed _ _ h) =
       let x = object (placeIn ls l) in
       (write-founded p s 0 v x d (placed-below s (k .longer) l h), keeps-trans k (write-untouched p s 0 v x .objects-kept))
   fill-one earlier s nothing d k h = (d, k)
 
-  fill-founded : (earlier xs : List Filling) (s : State) → Founded s → Keeps (startObjects p ls) (s .objects) → ((x : Filling) → List·Memᴰ x xs → Named ls x)
+  fill-founded : (earlier xs : List Filling) (s : State) → Founded s → Keeps (startObjects p ls) (s .objects) → ((x : Filling) → List·Memᴰ x xs → Listed ls x)
       → Founded (fill p ls earlier s xs)
   fill-founded earlier [] s d k h = d
   fill-founded earlier (x ∷ xs) s d k h =
@@ -114,7 +109,7 @@ module _ (p : Program) (plain : FirstPlain p) where
 
   pub start-founded : Founded (start p)
   start-founded =
-      fill-founded [] (fillings p) (unfilled p ls) unfilled-founded (keeps-refl (startObjects p ls)) (fillings-named firstLabels (fillings p))
+      fill-founded [] (fillings p) (unfilled p ls) unfilled-founded (keeps-refl (startObjects p ls)) (fillings-listed firstLabels (fillings p))
 
 first-plain : (L : ℕ) (xs : List ℕ) → 5 ≤ L → Readable L xs → FirstPlain (programOf (readFile L xs))
 unfolding programOf

@@ -1,5 +1,5 @@
--- Every table that the rules leave as it is describes every state that the machine reaches (Safe, by way of the modules before it); every state is
--- well founded, so that lookups never run dry (Founded to Lookups); and a run never takes anything back (Grown).
+-- Every table that the rules leave as it is describes every state that the machine reaches (Safe, by way of the modules before it); and every state
+-- is well founded, so that lookups never run dry (Founded to Lookups).
 pub mod Values
 pub mod States
 pub mod Setting
@@ -17,4 +17,3 @@ pub mod FoundedSteps
 pub mod FoundedRuns
 pub mod FoundedStart
 pub mod Lookups
-pub mod Grown

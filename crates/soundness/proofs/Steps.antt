@@ -2,15 +2,15 @@
 use mathlib.Core.Path.{_≡_, refl, sym, subst}
 use mathlib.Core.Logic.{_⊎_, inl, inr}
 use mathlib.Core.List.{List, [], _∷_, _++_, List·Memᴰ, List·Memᴰ·head, List·Memᴰ·tail, List·Memᴰ·cases-cons, List·Memᴰ·not-nil, Memᴰ·append-left, Memᴰ·append-right}
-use mathlib.Core.Bool.{Bool, true, false, true≢false}
+use mathlib.Core.Bool.{Bool, true, false}
 use Prim.Native.Nat.{ℕ, zero, suc, _<_}
 use native.Mathlib.Omega.{arith}
 use lib.ListN.{length, getD}
-use lib.Dec.{eqb, ltb}
+use lib.Dec.{ltb}
 use borrow.Author.Tests.{eqb-true, ltb-true, eq-eqb}
 use Rattle.rules.specs.Table.{Table}
 use Rattle.rules.specs.Told.{Closed}
-use Rattle.format.proofs.Tests.{and-first, and-second, or-true}
+use Rattle.format.proofs.Tests.{and-first, and-second}
 use Rattle.program.specs.Statement as say
 use Rattle.program.specs.Program.{Program, statements, namesOf, returnedBy, returnsIn, returnsOf}
 use Rattle.analysis.specs.Rules.{ruleOf}
@@ -19,6 +19,7 @@ use Rattle.machine.specs.Variable.{read, readAll, write}
 use Rattle.machine.specs.Property.{loadFrom, storeTo}
 use Rattle.machine.specs.Call.{primOf, handTo}
 use Rattle.machine.specs.Step.{Choice, Move, act, hand, scopeOf, inScope, member, primNames, grantOf, thrownIn, isThrown, perform, statementAt, makesSense, step, run}
+use Rattle.machine.proofs.Labels.{member-mem}
 use Rattle.soundness.specs.Described.{Described}
 use Rattle.soundness.proofs.Values.{allowed-more}
 use Rattle.soundness.proofs.States.{described-thrown, described-cond}
@@ -28,14 +29,6 @@ use Rattle.soundness.proofs.Properties.{make-described, make-function-d
 use Rattle.soundness.proofs.Calls.{call-described, new-described, prim-described, return-described, thrown-in-allowed, hand-described}
 
 -- ---- members of lists
-
-pub member-mem : (x : ℕ) (xs : List ℕ) → member x xs ≡ true → List·Memᴰ x xs
-member-mem x [] e = absurd (true≢false (sym e))
-member-mem x (y ∷ ys) e = go (or-true (eqb x y) (member x ys) e) (member-mem x ys)
-  where
-    go : (eqb x y ≡ true) ⊎ (member x ys ≡ true) → (member x ys ≡ true → List·Memᴰ x ys) → List·Memᴰ x (y ∷ ys)
-    go (inl q) rest = List·Memᴰ·head (eqb-true x y q)
-    go (inr q) rest = List·Memᴰ·tail (rest q)
 
 pub element-mem : {A : Type 0} (xs : List A) (d : A) (i : ℕ) → i < length xs → List·Memᴰ (getD xs i d) xs
 element-mem [] d i h = absurd (omega arith)

@@ -6,19 +6,18 @@ use mathlib.Core.Option.{Option, none, some}
 use Prim.Native.Nat.{ℕ, _<_}
 use native.Mathlib.Omega.{arith}
 use native.Mathlib.Decide.{ℕ-discrete}
-use lib.ListN.{length, getD, set, replicate, length-set, length-append, List·getD-append}
+use lib.ListN.{length, getD, set, length-set, length-append, List·getD-append}
 use lib.Seq.{getD-set-same, getD-set-other}
 use lib.Dec.{eqb}
-use Rattle.format.specs.Sheet.{builtIn}
 use Rattle.program.specs.Statement as say
-use Rattle.program.specs.Program.{Program, namesOf, isFunction, thisOf, formalsOf}
-use Rattle.machine.specs.State.{Value, primitive, object, Object, Caller, Frame, State, noObject, noFrame, objectAt, frameAt, orPrimitive, withObject, withFrame, setObject, setFrame, withBagged, withValue, withVariable, withThrown}
-use Rattle.machine.specs.Lookup.{nearestOf, findOf}
-use Rattle.machine.specs.Variable.{Place, nowhere, bag, named, local, placeOf, globalObject, read, readAll, writeIn, writePlace, write, writeAll}
-use Rattle.machine.specs.Property.{prototypeFor, fresh, next, loadFrom, storeTo}
-use Rattle.machine.specs.Call.{frameOf, callOf, newOf, primOf, returnTo, handTo}
-use Rattle.machine.specs.Step.{Choice, Move, act, hand, member, primNames, grantOf, thrownIn, isThrown, perform, statementAt, makesSense, step, run}
-use Rattle.soundness.specs.Grown.{SameObject, SameFrame, Grown}
+use Rattle.program.specs.Program.{Program}
+use Rattle.machine.specs.State.{Value, primitive, object, Object, Caller, Frame, State, noObject, noFrame, objectAt, frameAt, withObject, withFrame, setObject, setFrame, withBagged, withValue, withVariable, withThrown}
+use Rattle.machine.specs.Lookup.{nearestOf}
+use Rattle.machine.specs.Variable.{Place, nowhere, bag, named, local, placeOf, globalObject, writeIn, writePlace, write, writeAll}
+use Rattle.machine.specs.Property.{loadFrom, storeTo}
+use Rattle.machine.specs.Call.{enter, callOf, newOf, primOf, returnTo, handTo}
+use Rattle.machine.specs.Step.{Choice, Move, act, hand, grantOf, perform, step, run}
+use Rattle.machine.specs.Grown.{SameObject, SameFrame, Grown}
 
 same-object : (o : Object) → SameObject o o
 same-object o = record { same-label = refl; same-prototype = refl; same-kept = refl }
@@ -82,7 +81,7 @@ grown-object s o =
       bags-stay = λ b x m. m;
     }
 
-grown-frame : (s : State) (f : Frame) → Grown s (withFrame s f)
+pub grown-frame : (s : State) (f : Frame) → Grown s (withFrame s f)
 grown-frame s f =
     record {
       more-objects = omega arith;
@@ -92,7 +91,7 @@ grown-frame s f =
       bags-stay = λ b x m. m;
     }
 
-grown-value : (s : State) (i n j : ℕ) (x : Value) → Grown s (setObject s i (withValue (objectAt s i) n j x))
+pub grown-value : (s : State) (i n j : ℕ) (x : Value) → Grown s (setObject s i (withValue (objectAt s i) n j x))
 grown-value s i n j x =
     record {
       more-objects = omega (arith, length-set (s .objects) i (withValue (objectAt s i) n j x));
@@ -114,7 +113,7 @@ grown-set-frame s i f h =
       bags-stay = λ b y m. m;
     }
 
-grown-thrown : (s : State) (i : ℕ) (x : Value) → Grown s (setFrame s i (withThrown (frameAt s i) x))
+pub grown-thrown : (s : State) (i : ℕ) (x : Value) → Grown s (setFrame s i (withThrown (frameAt s i) x))
 grown-thrown s i x =
     grown-set-frame s i (withThrown (frameAt s i) x)
     (record { same-scope = refl; same-outward = refl; same-caller = refl; thrown-stays = λ y m. Memᴰ·append-left (x ∷ []) m })
@@ -137,10 +136,8 @@ grown-cond : (b : Bool) {s x y : State} → Grown s x → Grown s y → Grown s 
 grown-cond true h k = h
 grown-cond false h k = k
 
--- ---- each part of a step
-
 module _ (p : Program) where
-  grown-write : (s : State) (f v : ℕ) (x : Value) → Grown s (write p s f v x)
+  pub grown-write : (s : State) (f v : ℕ) (x : Value) → Grown s (write p s f v x)
   grown-write s f v x = go (placeOf p v)
     where
       at : (g : Option ℕ) → Grown s (writeIn s g v x)
@@ -155,89 +152,95 @@ module _ (p : Program) where
       go (named n) = grown-value s globalObject n 0 x
       go (local k) = at (nearestOf s f k)
 
-  grown-write-all : (s : State) (f : ℕ) (vs : List ℕ) (xs : List Value) → Grown s (writeAll p s f vs xs)
+  pub grown-write-all : (s : State) (f : ℕ) (vs : List ℕ) (xs : List Value) → Grown s (writeAll p s f vs xs)
   grown-write-all s f [] xs = grown-refl s
   grown-write-all s f (v ∷ vs) [] = grown-refl s
   grown-write-all s f (v ∷ vs) (x ∷ xs) = grown-trans (grown-write s f v x) (grown-write-all (write p s f v x) f vs xs)
 
-  -- an object more, and a variable written
-  grown-made : (s : State) (o : Object) (f y : ℕ) (x : Value) → Grown s (write p (withObject s o) f y x)
-  grown-made s o f y x = grown-trans (grown-object s o) (grown-write (withObject s o) f y x)
+  -- ---- one change after another
+
+  after-object : {s : State} (s' : State) (o : Object) → Grown s s' → Grown s (withObject s' o)
+  after-object s' o g = grown-trans g (grown-object s' o)
+
+  after-value : {s : State} (s' : State) (i n j : ℕ) (x : Value) → Grown s s' → Grown s (setObject s' i (withValue (objectAt s' i) n j x))
+  after-value s' i n j x g = grown-trans g (grown-value s' i n j x)
+
+  after-frame : {s : State} (s' : State) (f : Frame) → Grown s s' → Grown s (withFrame s' f)
+  after-frame s' f g = grown-trans g (grown-frame s' f)
+
+  after-thrown : {s : State} (s' : State) (f : ℕ) (x : Value) → Grown s s' → Grown s (setFrame s' f (withThrown (frameAt s' f) x))
+  after-thrown s' f x g = grown-trans g (grown-thrown s' f x)
+
+  after-write : {s : State} (s' : State) (f v : ℕ) (x : Value) → Grown s s' → Grown s (write p s' f v x)
+  after-write s' f v x g = grown-trans g (grown-write s' f v x)
+
+  after-write-all : {s : State} (s' : State) (f : ℕ) (vs : List ℕ) (xs : List Value) → Grown s s' → Grown s (writeAll p s' f vs xs)
+  after-write-all s' f vs xs g = grown-trans g (grown-write-all s' f vs xs)
+
+  ruleset changes = (grown-refl, grown-cond, after-object, after-value, after-frame, after-thrown, after-write, after-write-all)
+
+  -- ---- each part of a step
 
   grown-load : (s : State) (f y : ℕ) (x : Value) (u c n j : ℕ) → Grown s (loadFrom p s f y x u c n j)
-  grown-load s f y (object i) u c n j = grown-write s f y (orPrimitive (findOf s (object i) n j))
-  grown-load s f y primitive u c n j = grown-made s (fresh u (prototypeFor p u c) f) f y _
+  grown-load s f y (object i) u c n j = search changes
+  grown-load s f y primitive u c n j = search changes
 
   grown-store : (s : State) (x a : Value) (n j : ℕ) → Grown s (storeTo p s x a n j)
-  grown-store s primitive a n j = grown-refl s
-  grown-store s (object i) a n j = grown-cond (builtIn (p .sheet) (objectAt s i .label)) (grown-refl s) (grown-value s i n j a)
+  grown-store s primitive a n j = search changes
+  grown-store s (object i) a n j = search changes
 
-  grown-call : (s : State) (f y : ℕ) (byNew : Bool) (x this : Value) (xs : List Value) → Grown s (callOf p s f y byNew x this xs)
-  grown-call s f y byNew primitive this xs = grown-refl s
-  grown-call s f y byNew (object i) this xs =
-      let o = objectAt s i in
-      let s' = withFrame s (frameOf o f y byNew) in
-      let v = thisOf (p .sheet) (o .label) in
-      grown-cond (isFunction (p .sheet) (o .label))
-      (grown-trans (grown-frame s (frameOf o f y byNew))
-      (grown-trans (grown-write s' (length (s .frames)) v this)
-      (grown-write-all (write p s' (length (s .frames)) v this) (length (s .frames)) (formalsOf (p .sheet) (o .label)) xs)))
-      (grown-refl s)
+  pub grown-enter : (s : State) (f y : ℕ) (byNew : Bool) (o : Object) (this : Value) (xs : List Value) → Grown s (enter p s f y byNew o this xs)
+  grown-enter s f y byNew o this xs = search changes
+
+  after-call : {s : State} (s' : State) (f y : ℕ) (byNew : Bool) (x this : Value) (xs : List Value) → Grown s s' → Grown s (callOf p s' f y byNew x this xs)
+  after-call s' f y byNew primitive this xs g = g
+  after-call s' f y byNew (object i) this xs g = grown-trans g (search (changes, grown-enter))
 
   grown-new : (s : State) (f y u l j : ℕ) (x : Value) (xs : List Value) → Grown s (newOf p s f y u l x j xs)
-  grown-new s f y u l j primitive xs = grown-refl s
-  grown-new s f y u l j (object i) xs =
-      grown-cond (isFunction (p .sheet) (objectAt s i .label))
-      (grown-trans (grown-made s _ f u (next s)) (grown-trans (grown-write _ f y (next s)) (grown-call _ f y true (object i) (next s) xs)))
-      (grown-refl s)
+  grown-new s f y u l j primitive xs = search changes
+  grown-new s f y u l j (object i) xs = search (changes, after-call) depth 8
 
   grown-prim : (s : State) (f : ℕ) (x : Value) (n j : ℕ) → Grown s (primOf p s f x n j)
-  grown-prim s f primitive n j = grown-refl s
-  grown-prim s f (object i) n j = grown-call s f 0 false (orPrimitive (findOf s (object i) n j)) (object i) (replicate 6 primitive)
+  grown-prim s f primitive n j = search changes
+  grown-prim s f (object i) n j = search (changes, after-call)
 
   grown-return : (s : State) (c : Option Caller) (x : Value) → Grown s (returnTo p s c x)
-  grown-return s none x = grown-refl s
-  grown-return s (some c) primitive = grown-cond (c .byNew) (grown-refl s) (grown-write s (c .frame) (c .result) primitive)
-  grown-return s (some c) (object i) = grown-write s (c .frame) (c .result) (object i)
+  grown-return s none x = search changes
+  grown-return s (some c) primitive = search changes
+  grown-return s (some c) (object i) = search changes
 
   grown-hand : (s : State) (c : Option Caller) (x : Value) → Grown s (handTo s c x)
-  grown-hand s none x = grown-refl s
-  grown-hand s (some c) x = grown-thrown s (c .frame) x
+  grown-hand s none x = search changes
+  grown-hand s (some c) x = search changes
 
   grown-grant : (to : Bool) (s : State) (f v b i : ℕ) → Grown s (grantOf p to s f v b i)
-  grown-grant true s f v b i = grown-write s f b (read p s f v i)
-  grown-grant false s f v b i = grown-write s f v (read p s f b i)
+  grown-grant true s f v b i = search changes
+  grown-grant false s f v b i = search changes
 
   -- ---- steps and runs
 
+  ruleset parts = (changes, grown-load, grown-store, after-call, grown-new, grown-prim, grown-return, grown-hand, grown-grant)
+
   grown-perform : (c : Choice) (s : State) (f : ℕ) (a : say.Statement) → Grown s (perform p c s f a)
-  grown-perform c s f (say.named v n) = grown-refl s
-  grown-perform c s f (say.grant v b) = grown-grant (c .toGuest) s f v b (c .which 0)
-  grown-perform c s f (say.property l n m) = grown-refl s
-  grown-perform c s f (say.held v l) = grown-refl s
-  grown-perform c s f (say.copy k y x) = grown-write s f y (read p s f x (c .which 0))
-  grown-perform c s f (say.load k y x key u) =
-      grown-cond (member (c .name) (namesOf (p .sheet) key)) (grown-load s f y (read p s f x (c .which 0)) u (c .prototype) (c .name) (c .number))
-      (grown-refl s)
-  grown-perform c s f (say.store k x key a) =
-      grown-cond (member (c .name) (namesOf (p .sheet) key))
-      (grown-store s (read p s f x (c .which 0)) (read p s f a (c .which 1)) (c .name) (c .number)) (grown-refl s)
-  grown-perform c s f (say.make k y l) = grown-made s (fresh l (prototypeFor p l (c .prototype)) f) f y (next s)
-  grown-perform c s f (say.makeFunction k y l q) =
-      grown-trans (grown-object s (fresh q (prototypeFor p q (c .prototype')) f)) (grown-made (withObject s (fresh q (prototypeFor p q (c .prototype')) f)) _ f y _)
-  grown-perform c s f (say.call k y g u vs) =
-      grown-call s f y false (read p s f g (c .which 0)) (read p s f u (c .which 1)) (readAll p s f vs (c .which) 2)
-  grown-perform c s f (say.new k y g u l vs) = grown-new s f y u l (c .number) (read p s f g (c .which 0)) (readAll p s f vs (c .which) 2)
-  grown-perform c s f (say.return k x) = grown-return s (frameAt s f .caller) (read p s f x (c .which 0))
-  grown-perform c s f (say.throw k x) = grown-thrown s f (read p s f x (c .which 0))
-  grown-perform c s f (say.catch k y) =
-      grown-cond (isThrown s f (c .thrown)) (grown-write s f y (thrownIn s f (c .thrown))) (grown-refl s)
-  grown-perform c s f (say.prim k x) =
-      grown-cond (member (c .name) primNames) (grown-prim s f (read p s f x (c .which 0)) (c .name) (c .number)) (grown-refl s)
+  grown-perform c s f (say.named v n) = search parts
+  grown-perform c s f (say.grant v b) = search parts
+  grown-perform c s f (say.property l n m) = search parts
+  grown-perform c s f (say.held v l) = search parts
+  grown-perform c s f (say.copy k y x) = search parts
+  grown-perform c s f (say.load k y x key u) = search parts
+  grown-perform c s f (say.store k x key a) = search parts
+  grown-perform c s f (say.make k y l) = search parts
+  grown-perform c s f (say.makeFunction k y l q) = search parts
+  grown-perform c s f (say.call k y g u vs) = search parts
+  grown-perform c s f (say.new k y g u l vs) = search parts
+  grown-perform c s f (say.return k x) = search parts
+  grown-perform c s f (say.throw k x) = search parts
+  grown-perform c s f (say.catch k y) = search parts
+  grown-perform c s f (say.prim k x) = search parts
 
   pub step-grown : (m : Move) (s : State) → Grown s (step p m s)
-  step-grown (act c) s = grown-cond (makesSense p c s) (grown-perform c s (c .frame) (statementAt p (c .statement) .1)) (grown-refl s)
-  step-grown (hand f i) s = grown-cond (isThrown s f i) (grown-hand s (frameAt s f .caller) (thrownIn s f i)) (grown-refl s)
+  step-grown (act c) s = search (parts, grown-perform)
+  step-grown (hand f i) s = search parts
 
   pub run-grown : (moves : List Move) (s : State) → Grown s (run p moves s)
   run-grown [] s = grown-refl s
