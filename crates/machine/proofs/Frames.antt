@@ -30,10 +30,10 @@ pub closure : EndsWith
 unfolding outcome
 closure = refl
 
--- 6 makes 7, which makes 9: from a frame of 9 the variable of 6 is two frames outward
+-- 6 makes 7, which makes 9: from a frame of 9 the variable of 6 is two frames outward, and the top frame three
 pub outward-of-outward : EndsWith
     (journal ++ (variable 3 ∷ function 6 ∷ function 7 ∷ function 9 ∷ plain 8 ∷ local 4 6 ∷ local 5 6 ∷ local 10 7 ∷ held 3 6 ∷
-    grant 3 ∷ copy 6 4 2 ∷ makeFunction 6 5 7 8 ∷ return 6 5 ∷ makeFunction 7 10 9 8 ∷ return 7 10 ∷ return 9 4 ∷ []))
+    grant 3 ∷ copy 6 4 2 ∷ makeFunction 6 5 7 8 ∷ return 6 5 ∷ makeFunction 7 10 9 8 ∷ return 7 10 ∷ return 9 4 ∷ return 9 3 ∷ []))
     (grants 3 ∷
     does guestCall 1 ∷  -- 6: frame 2
     does (host (copy 6 4 2)) 2 ∷
@@ -44,8 +44,9 @@ pub outward-of-outward : EndsWith
     does (host (return 7 10)) 3 ∷
     picks guestCall 1 (2 ∷ []) ∷  -- 9: frame 4
     does (host (return 9 4)) 4 ∷
+    does (host (return 9 3)) 4 ∷
     [])
-    (6 ∷ 7 ∷ 9 ∷ 5 ∷ [])
+    (6 ∷ 7 ∷ 9 ∷ 5 ∷ 6 ∷ [])
 unfolding outcome
 outward-of-outward = refl
 

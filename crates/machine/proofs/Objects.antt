@@ -126,6 +126,18 @@ pub load-on-primitive : EndsWith
 unfolding outcome
 load-on-primitive = refl
 
+-- the same in function 6, in a variable of its own
+pub load-on-primitive-in-a-function : EndsWith
+    (forbidden ++ (function 6 ∷ plain 7 ∷ local 4 6 ∷ variable 3 ∷ held 3 6 ∷ property 1 10 5 ∷ grant 3 ∷ load 6 4 0 10 7 ∷ return 6 4 ∷ []))
+    (grants 3 ∷
+    does guestCall 1 ∷  -- 6: frame 2
+    atPair (host (load 6 4 0 10 7)) 2 [] 10 0 ∷
+    does (host (return 6 4)) 2 ∷
+    [])
+    (6 ∷ 5 ∷ [])
+unfolding outcome
+load-on-primitive-in-a-function = refl
+
 -- w is fresh: what the object of its label had at the start is not in it
 pub load-from-fresh : EndsWith
     (forbidden ++ (plain 6 ∷ property 6 4 5 ∷ variable 2 ∷ load 0 2 0 4 6 ∷ grant 2 ∷ []))

@@ -90,7 +90,7 @@ pub other-name : EndsWith
     grants 4 ∷
     atPair (host (store 0 3 4 2)) 0 [] 11 0 ∷
     grants 3 ∷
-    loads 0 11 0 ∷
+    loads 1 11 0 ∷  -- behind the primitive that was in variable 4
     [])
     (6 ∷ [])
 unfolding outcome
@@ -106,7 +106,7 @@ pub other-class : EndsWith
     grants 4 ∷
     atPair (host (store 0 3 131 2)) 0 [] 12 0 ∷
     grants 3 ∷
-    loads 0 12 0 ∷
+    loads 2 12 0 ∷
     [])
     (6 ∷ [])
 unfolding outcome

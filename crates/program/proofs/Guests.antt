@@ -1,11 +1,11 @@
 -- The guest's statements, computed. Assumes nothing.
 use mathlib.Core.Path.{_≡_, refl}
-use mathlib.Core.List.{List, [], _∷_}
+use mathlib.Core.List.{[], _∷_, _++_}
 use Prim.Native.Nat.{_^_}
 use Rattle.program.specs.Statement as say
 use Rattle.program.specs.Statement.{statementsOf}
-use Rattle.program.specs.Program.{guestStatements, guestsStatements, hostStatements, programOf, statements}
-use Rattle.program.proofs.File.{plain, forbid, variable, grant, held, reading}
+use Rattle.program.specs.Program.{Guest, noRecord, guestStatements, placed, guestsStatements, hostStatements, programOf, statements}
+use Rattle.program.proofs.File.{plain, forbid, variable, grant, reading}
 
 -- "The guest is scope 3 with variable 1 in every variable field, w, l, q = 3 and key 128: make function, load, store, call, new, return, throw,
 -- catch": these stand before the host's statements and belong to no record
@@ -41,3 +41,8 @@ pub guest-by-its-fields : guestStatements (record { label = 7; bag = 9; key = 13
     []
 unfolding guestStatements
 guest-by-its-fields = refl
+
+-- where there are several guests, each says its own
+pub each-guest-says : (g h : Guest) → guestsStatements (g ∷ h ∷ []) ≡ placed noRecord (guestStatements g) ++ placed noRecord (guestStatements h)
+unfolding guestsStatements guestStatements
+each-guest-says g h = refl
