@@ -1,5 +1,5 @@
--- The handset machine: its states, its lookups, its variables, its objects, its calls, its steps, its start, how a run is written down, and what its
--- laws speak of.
+-- The handset machine: its states, its lookups, its variables, its objects, its calls, its steps, its start, and how a run is written down. Then its
+-- laws (Laws), with what they speak of (Grown, Seen, Effect, Begun).
 pub mod State
 pub mod Lookup
 pub mod Variable
@@ -12,3 +12,4 @@ pub mod Grown
 pub mod Seen
 pub mod Effect
 pub mod Begun
+pub mod Laws
