@@ -1,7 +1,7 @@
 -- Laws of return, throw, catch and of handing on: for every program, state, frame and choice, what a step can bring about. Assumes nothing.
 use mathlib.Core.Path.{_≡_, refl, _∙_}
 use mathlib.Core.List.{List·Memᴰ·head, Memᴰ·append-right}
-use mathlib.Core.Bool.{Bool, true, false, cond}
+use mathlib.Core.Bool.{false}
 use mathlib.Core.Option.{some}
 use Prim.Native.Nat.{ℕ, _<_}
 use native.Mathlib.Omega.{arith}
@@ -13,8 +13,8 @@ use Rattle.program.specs.Program.{Program}
 use Rattle.machine.specs.State.{Value, primitive, object, State, noFrame, frameAt, withThrown}
 use Rattle.machine.specs.Variable.{write}
 use Rattle.machine.specs.Call.{returnTo, throwIn}
-use Rattle.machine.specs.Step.{hand, perform, statementAt, makesSense}
-use Rattle.machine.specs.Laws.{FramesStay, Hands, Throws, Catches, Returns, ReturnsObject, ReturnsNothingToNew}
+use Rattle.machine.specs.Step.{hand}
+use Rattle.machine.specs.Laws.{FramesStay, Hands, Throws, Catches, Returns, ReturnsObject}
 use Rattle.machine.specs.Effect.{Thrown}
 use Rattle.machine.proofs.Grown.{step-grown}
 use Rattle.machine.proofs.Reading.{place-of, can-read}
@@ -66,11 +66,3 @@ return-puts p s f k here v g y x says h e w =
 pub return-puts-object : (p : Program) (s : State) (f k : ℕ) → ReturnsObject p s f k
 return-puts-object p s f k here v i c says h e w =
     let r = can-read h in acts says here refl (fields (λ j. r .0)) (λ _. rw (r .1, e) (puts (object i) w))
-
-pub return-primitive-of-new : (p : Program) (s : State) → ReturnsNothingToNew p s
-return-primitive-of-new p s c k v d e e' e'' n =
-    either (makesSense p c s) (perform p c s (c .frame) (statementAt p (c .statement) .1)) (rw (e, e', e'', n))
-  where
-    either : (b : Bool) (s' : State) → s' ≡ s → cond b s' s ≡ s
-    either true s' h = h
-    either false s' h = refl

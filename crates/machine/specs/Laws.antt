@@ -18,7 +18,7 @@ use Rattle.machine.specs.Step.{Choice, Move, act, statementAt, step, run
 use Rattle.machine.specs.Start.{topFrame, start}
 use Rattle.machine.specs.Grown.{Grown}
 use Rattle.machine.specs.Seen.{Named, Finds, Holds, Reads, ReadsAll, Writable}
-use Rattle.machine.specs.Effect.{Says, GuestSays, In, Can, Spares, Put, Gives, Stored, Thrown, Prototype, Made, Takes, entering, Called, Built}
+use Rattle.machine.specs.Effect.{Says, GuestSays, In, Can, Spares, Put, Gives, Stored, Thrown, Prototype, Made, Takes, entering, Called, Built, NoFunction, NoStore}
 use Rattle.machine.specs.Begun.{Begins, StandsFor, Numbered, LastOf}
 
 -- ---- what a statement in a frame of its scope can bring about
@@ -130,15 +130,40 @@ module _ (p : Program) (s : State) where
   abbrev pub FramesStay : Type 0
   FramesStay = (m : Move) (f k : ℕ) → In s f k → In (step p m s) f k
 
-  -- "returning a primitive from it changes nothing": whatever the choice, where new made the call
-  abbrev pub ReturnsNothingToNew : Type 0
-  ReturnsNothingToNew =
-      (c : Choice) (k v : ℕ) (d : Caller) → statementAt p (c .statement) .1 ≡ say.return k v → read p s (c .frame) v (c .which 0) ≡ primitive
-      → frameAt s (c .frame) .caller ≡ some d → d .byNew ≡ true → step p (act c) s ≡ s
-
   -- "A run is a finite list of steps .. each taken in what the last one left": what a step can bring about after a run, a run brings about
   abbrev pub RunsGoOn : Type 1
   RunsGoOn = (moves : List Move) (E : State → Type 0) → Can p (run p moves s) E → (longer : List Move) × E (run p longer s)
+
+-- ---- what does nothing, whatever the choice
+
+module _ (p : Program) (s : State) (c : Choice) where
+  -- "Calling what is no function does nothing"
+  abbrev pub CallsNothing : Type 0
+  CallsNothing =
+      (k y g t : ℕ) (args : List ℕ) → statementAt p (c .statement) .1 ≡ say.call k y g t args → NoFunction p s (read p s (c .frame) g (c .which 0))
+      → step p (act c) s ≡ s
+
+  -- "New on what is no function does nothing"
+  abbrev pub BuildsNothing : Type 0
+  BuildsNothing =
+      (k y g t l : ℕ) (args : List ℕ) → statementAt p (c .statement) .1 ≡ say.new k y g t l args → NoFunction p s (read p s (c .frame) g (c .which 0))
+      → step p (act c) s ≡ s
+
+  -- "nor does prim on a primitive"
+  abbrev pub PrimsNothing : Type 0
+  PrimsNothing =
+      (k v : ℕ) → statementAt p (c .statement) .1 ≡ say.prim k v → read p s (c .frame) v (c .which 0) ≡ primitive → step p (act c) s ≡ s
+
+  -- "Stores to primitives or built-in objects do nothing."
+  abbrev pub StoresNothing : Type 0
+  StoresNothing =
+      (k v key a : ℕ) → statementAt p (c .statement) .1 ≡ say.store k v key a → NoStore p s (read p s (c .frame) v (c .which 0)) → step p (act c) s ≡ s
+
+  -- of new: "returning a primitive from it changes nothing"
+  abbrev pub ReturnsNothing : Type 0
+  ReturnsNothing =
+      (k v : ℕ) (d : Caller) → statementAt p (c .statement) .1 ≡ say.return k v → read p s (c .frame) v (c .which 0) ≡ primitive
+      → frameAt s (c .frame) .caller ≡ some d → d .byNew ≡ true → step p (act c) s ≡ s
 
 -- ---- statements and the start
 
