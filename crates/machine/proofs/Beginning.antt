@@ -1,7 +1,7 @@
 -- Laws of the start: its frames, and the object of each label. Assumes nothing.
 use mathlib.Core.Path.{_≡_, ap, _∙_, sym}
 use mathlib.Core.List.{List, [], _∷_, map, List·Memᴰ, List·Memᴰ·head, List·Memᴰ·tail}
-use mathlib.Core.Option.{none, some}
+use mathlib.Core.Option.{some}
 use Prim.Native.Nat.{ℕ, suc, _<_}
 use native.Mathlib.Omega.{arith}
 use borrow.Author.Tests.{eq-eqb, ne-eqb}
@@ -9,11 +9,10 @@ use lib.ListN.{length, getD}
 use Rattle.program.specs.Statement as say
 use Rattle.program.specs.Program.{Program, Guest}
 use Rattle.machine.specs.State.{State, Object, objectAt, frameAt, frameIn}
-use Rattle.machine.specs.Variable.{globalObject}
-use Rattle.machine.specs.Property.{objectPrototype, functionPrototype, arrayPrototype}
 use Rattle.machine.specs.Start.{Filling, property, held, nothing, fillingOf, fillings, firstLabels, startLabels, placeIn, topFrame, startObjects, firstFrame, guestFrames, unfilled, fillOne, fill, start}
 use Rattle.machine.specs.Grown.{Grown}
 use Rattle.machine.specs.Effect.{In}
+use Rattle.machine.specs.Laws.{TopFrame, GuestFrames, StartObjects, FirstObjects}
 use Rattle.machine.specs.Begun.{Begins, beforehand, owns, is-owned, is-held, StandsFor}
 use Rattle.machine.proofs.Grown.{grown-refl, grown-trans, grown-value, grown-write}
 use Rattle.machine.proofs.Making.{by-type}
@@ -41,17 +40,14 @@ frame-at-start p f l =
     let h = w .same-frames f l in
     (record { frame-there = omega (arith, w .more-frames); scope-is = h .same-scope }, h .same-outward, h .same-caller)
 
--- "the top frame": of scope 0, and outward of it is none
-pub start-top : (p : Program) → In (start p) topFrame 0 × (frameAt (start p) topFrame .outward ≡ none) × (frameAt (start p) topFrame .caller ≡ none)
+pub start-top : (p : Program) → TopFrame p
 start-top p = frame-at-start p topFrame (omega arith)
 
 guest-place : (gs : List Guest) (g : Guest) → List·Memᴰ g gs → (i : ℕ) × (i < length (guestFrames gs)) × (frameIn (guestFrames gs) i ≡ firstFrame (g .label) (some topFrame))
 guest-place (h ∷ gs) g (List·Memᴰ·head e) = (0, omega arith, ap (λ (z : Guest). firstFrame (z .label) (some topFrame)) (sym e))
 guest-place (h ∷ gs) g (List·Memᴰ·tail m) = let r = guest-place gs g m in (suc (r .0), omega arith, r .2)
 
--- "in which the guest's first frame is made before any step"; "The guest's first frame has no caller"
-pub start-guest : (p : Program) (g : Guest) → List·Memᴰ g (p .guests)
-    → (f : ℕ) × In (start p) f (g .label) × (frameAt (start p) f .outward ≡ some topFrame) × (frameAt (start p) f .caller ≡ none)
+pub start-guest : (p : Program) → GuestFrames p
 start-guest p g m =
     let r = guest-place (p .guests) g m in
     let h = frame-at-start p (suc (r .0)) (omega arith) in
@@ -103,17 +99,11 @@ stands-for p s l w m =
       has-none = λ e. same .same-prototype ∙ ap (λ (o : Object). o .prototype) is ∙ rw (i .1, eq-eqb l 1 e);
     }
 
--- "At the start there is one object for labels 0, 1, 2, 4 and for each label of kinds 7 and 8"
-pub start-object : (p : Program) (l : ℕ) → Begins p l → (i : ℕ) × StandsFor p (start p) l i
+pub start-object : (p : Program) → StartObjects p
 start-object p l b =
     (placeIn (startLabels p) l, stands-for p (start p) l (grown-fill p (startLabels p) [] (unfilled p (startLabels p)) (fillings p)) (in-start p l b))
 
--- the places of the objects that the machine itself looks for
-pub start-first : (p : Program)
-    → (objectAt (start p) objectPrototype .label ≡ 1)
-    × (objectAt (start p) globalObject .label ≡ 0)
-    × (objectAt (start p) functionPrototype .label ≡ 2)
-    × (objectAt (start p) arrayPrototype .label ≡ 4)
+pub start-first : (p : Program) → FirstObjects p
 start-first p = (at 0 (omega arith), at 1 (omega arith), at 2 (omega arith), at 3 (omega arith))
   where
     at : (i : ℕ) → i < 4 → objectAt (start p) i .label ≡ getD firstLabels i 0

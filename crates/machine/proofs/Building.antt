@@ -14,8 +14,9 @@ use Rattle.machine.specs.Variable.{globalObject, write}
 use Rattle.machine.specs.Property.{fresh, next}
 use Rattle.machine.specs.Call.{callOf, prototypeFound}
 use Rattle.machine.specs.Grown.{Grown}
-use Rattle.machine.specs.Seen.{Finds, Reads, reads-nothing, variable-none, ReadsAll, Gets}
-use Rattle.machine.specs.Effect.{Says, In, Can, Spares, Takes, takes-found, finds-primitive, finds-nothing, entering, Called, Built}
+use Rattle.machine.specs.Seen.{reads-nothing, variable-none, Gets}
+use Rattle.machine.specs.Laws.{News}
+use Rattle.machine.specs.Effect.{Spares, Takes, takes-found, finds-primitive, finds-nothing, entering, Called, Built}
 use Rattle.machine.proofs.Grown.{grown-refl, grown-trans, grown-object, grown-write, grown-enter}
 use Rattle.machine.proofs.Outward.{begins-there, value-found}
 use Rattle.machine.proofs.Writing.{writable-stays, written, write-spares}
@@ -79,12 +80,7 @@ built p s f y t l q i xs global there e =
     spares-for : {s s' : State} {a b : ℕ} → a ≡ b → Spares p s s' (entering p a) → Spares p s s' (entering p b)
     spares-for {s} {s'} = subst (λ (z : ℕ). Spares p s s' (entering p z))
 
-module _ {p : Program} {s : State} {f k : ℕ} (here : In s f k) (global : globalObject < length (s .objects)) where
-  -- 22: "it looks up name 3 from the callee as a load does, and takes what it finds as prototype where it is an object, else label 1; t and y get the
-  -- new object", and the callee is called with it as this
-  pub new-builds : {y g t l i j q : ℕ} {r : Option Value} {args : List ℕ} {xs : List Value} → Says p (say.new k y g t l args) → Reads p s f g (object i)
-      → typeOf (p .sheet) (objectAt s i .label) ≡ 2 → Finds s 3 j i r → Takes r q → ReadsAll p s f args xs
-      → Can p s (λ s'. Built p s s' i f y t l q xs)
-  new-builds {y} {g} {t} {l} {i} {j} {q} {r} {args} {xs} says h e d a hs =
-      let w = can-read-call h (reads-nothing variable-none) hs in
-      acts says here refl (pair (w .0) 0 j 0) (λ _. rw (w .1, w .3, e, value-found d, takes a) (built p s f y t l q i xs global (begins-there d) e))
+pub new-builds : (p : Program) (s : State) (f k : ℕ) → News p s f k
+new-builds p s f k here global y g t l i j q r args xs says h e d a hs =
+    let c = can-read-call h (reads-nothing variable-none) hs in
+    acts says here refl (pair (c .0) 0 j 0) (λ _. rw (c .1, c .3, e, value-found d, takes a) (built p s f y t l q i xs global (begins-there d) e))

@@ -3,19 +3,17 @@ use mathlib.Core.Path.{_≡_, refl, ap, _∙_}
 use mathlib.Core.Logic.{_⊎_, inl, inr}
 use mathlib.Core.List.{List, [], _∷_}
 use mathlib.Core.Bool.{Bool, true, false}
-use mathlib.Core.Option.{some}
 use Prim.Native.Nat.{ℕ, _<_}
 use native.Mathlib.Omega.{arith}
 use lib.ListN.{length, replicate, length-append}
 use lib.Seq.{getD-append-seam}
-use Rattle.format.specs.Sheet.{typeOf}
 use Rattle.program.specs.Statement as say
 use Rattle.program.specs.Program.{Program}
 use Rattle.machine.specs.State.{Value, primitive, object, Frame, State, noFrame, objectAt, withFrame}
 use Rattle.machine.specs.Call.{frameOf, enter}
 use Rattle.machine.specs.Step.{member, primNames}
-use Rattle.machine.specs.Seen.{Finds, Reads, ReadsAll}
-use Rattle.machine.specs.Effect.{Says, In, Can, Spares, entering, Called}
+use Rattle.machine.specs.Laws.{Calls, Prims}
+use Rattle.machine.specs.Effect.{Spares, entering, Called}
 use Rattle.machine.proofs.Grown.{grown-frame, grown-write-all}
 use Rattle.machine.proofs.Outward.{value-found}
 use Rattle.machine.proofs.Reading.{can-read}
@@ -54,26 +52,19 @@ entered-spares p s i f y byNew this xs =
     let new = frameOf o f y byNew in
     spares-both (grown-frame s new) (spares-frame s new) (spares-write-all p (withFrame s new) (length (s .frames)) (entering p (o .label)) (this ∷ xs))
 
-module _ {p : Program} {s : State} {f k : ℕ} (here : In s f k) where
-  -- 21: whatever function object, this and arguments are read, each by itself
-  pub call-calls : {y g t i : ℕ} {args : List ℕ} {this : Value} {xs : List Value} → Says p (say.call k y g t args) → Reads p s f g (object i)
-      → typeOf (p .sheet) (objectAt s i .label) ≡ 2 → Reads p s f t this → ReadsAll p s f args xs
-      → Can p s (λ s'. Called p s s' i f y false this xs × Spares p s s' (entering p (objectAt s i .label)))
-  call-calls {y = y} {i = i} {this = this} {xs = xs} says h e h' hs =
-      let r = can-read-call h h' hs in
-      acts says here refl (fields (r .0)) (λ _. rw (r .1, r .2, r .3, e) (entered p s i f y false this xs, entered-spares p s i f y false this xs))
+pub call-calls : (p : Program) (s : State) (f k : ℕ) → Calls p s f k
+call-calls p s f k here y g t i args this xs says h e h' hs =
+    let c = can-read-call h h' hs in
+    acts says here refl (fields (c .0)) (λ _. rw (c .1, c .2, c .3, e) (entered p s i f y false this xs, entered-spares p s i f y false this xs))
 
-  -- 26: "prim finds a value under name 1 or 2 as a load does and calls it with the object as this, dropping the result"
-  pub prim-calls : {v i n j g : ℕ} → Says p (say.prim k v) → Reads p s f v (object i) → (n ≡ 1) ⊎ (n ≡ 2) → Finds s n j i (some (object g))
-      → typeOf (p .sheet) (objectAt s g .label) ≡ 2
-      → Can p s (λ s'. Called p s s' g f 0 false (object i) (replicate 6 primitive) × Spares p s s' (entering p (objectAt s g .label)))
-  prim-calls {i = i} {n = n} {j = j} {g = g} says h m d e =
-      let r = can-read h in
-      acts says here refl (pair (λ j. r .0) n j 0)
-      (λ _.
-      rw (name m, r .1, value-found d, e)
-      (entered p s g f 0 false (object i) (replicate 6 primitive), entered-spares p s g f 0 false (object i) (replicate 6 primitive)))
-    where
-      name : (n ≡ 1) ⊎ (n ≡ 2) → member n primNames ≡ true
-      name (inl e) = rw e
-      name (inr e) = rw e
+pub prim-calls : (p : Program) (s : State) (f k : ℕ) → Prims p s f k
+prim-calls p s f k here v i n j g says h m d e =
+    let c = can-read h in
+    acts says here refl (pair (λ j. c .0) n j 0)
+    (λ _.
+    rw (name m, c .1, value-found d, e)
+    (entered p s g f 0 false (object i) (replicate 6 primitive), entered-spares p s g f 0 false (object i) (replicate 6 primitive)))
+  where
+    name : (n ≡ 1) ⊎ (n ≡ 2) → member n primNames ≡ true
+    name (inl e) = rw e
+    name (inr e) = rw e

@@ -18,6 +18,7 @@ use Rattle.machine.specs.Variable.{globalObject, write}
 use Rattle.machine.specs.Start.{Filling, property, held, nothing, fillingOf, fillings, firstLabels, startLabels, placeIn, topFrame, unfilled, isPropertyOf, numberAmong, fillOne, fill, start}
 use Rattle.machine.specs.Grown.{Grown}
 use Rattle.machine.specs.Seen.{Bag, Named, Holds, in-bag, in-global, in-frame, Writable, Apart}
+use Rattle.machine.specs.Laws.{StartVariables, StartProperties}
 use Rattle.machine.specs.Begun.{StandsFor, LastOf, Numbered, no-record, one-more, another}
 use Rattle.machine.proofs.Grown.{grown-refl, grown-trans, grown-value}
 use Rattle.machine.proofs.Writing.{SameNumber, write-number, writable-was, nearest-stays, stored-elsewhere, pair-stays, write-spares, written}
@@ -136,9 +137,7 @@ module _ (p : Program) where
     stands : (l : ℕ) → List·Memᴰ l ls → StandsFor p (start p) l (placeIn ls l)
     stands l m = stands-for p (start p) l (grown-fill p ls [] (unfilled p ls) (fillings p)) m
 
-  -- 8: the variable holds the object of the label, where no later record fills it
-  pub start-held : (at v l : ℕ) (before after : List (ℕ × say.Statement)) → p .host ≡ before ++ ((at, say.held v l) ∷ after) → LastOf p v after
-      → Writable p (start p) topFrame v → (i : ℕ) × StandsFor p (start p) l i × Holds p (start p) topFrame v (object i)
+  pub start-held : StartVariables p
   start-held at v l before after is last w =
       let b : ℕ × say.Statement = (at, say.held v l) in
       let s = reached b before after is in
@@ -178,11 +177,7 @@ module _ (p : Program) where
           pair-stays p s topFrame u (object (placeIn ls m)) (placeIn ls l) n j (λ a e e'. no-held u m refl a (global-label l ml (sym e)) e')
       one a (nothing-fills _ e) _ no-held = rw e
 
-  -- 7: "the j-th kind 7 record for the same l and n uses pair (n, j), from 0", and what it put there stands, where no record of kind 8 fills the pair
-  -- again as a named variable
-  pub start-property : (at l n m j : ℕ) (before after : List (ℕ × say.Statement)) → p .host ≡ before ++ ((at, say.property l n m) ∷ after)
-      → Numbered l n before j → ((at u k : ℕ) → List·Memᴰ (at, say.held u k) after → Named p u n → l ≡ 0 → j ≡ 0 → ⊥)
-      → (i : ℕ) × (i' : ℕ) × StandsFor p (start p) l i × StandsFor p (start p) m i' × (objectAt (start p) i .values n j ≡ some (object i'))
+  pub start-property : StartProperties p
   start-property at l n m j before after is number last =
       let b : ℕ × say.Statement = (at, say.property l n m) in
       let s = reached b before after is in

@@ -35,7 +35,7 @@ pub granted-is-held : (p : Program) (g : Guest) (at at' v l : ℕ) (before after
 granted-is-held p g at at' v l before after among bag is last w m =
     let b : Bag p (g .bag) = record { not-none = bag; guest = g; among = among; its-bag = refl } in
     let h = start-held p at v l before after is last w in
-    let can = grant-to-guest (start-top p .0) (host-says p m) (reads-held (object (h .0)) (h .2)) (to-bag b) in
+    let can = grant-to-guest p (start p) topFrame v (g .bag) (object (h .0)) (start-top p .0) (host-says p at' (say.grant v (g .bag)) m) (reads-held (object (h .0)) (h .2)) (to-bag b) in
     let s = step p (can .move) (start p) in
-    let e : objectAt s (h .0) .label ≡ l = step-grown p (can .move) (start p) .same-objects (h .0) (h .1 .is-there) .same-label ∙ h .1 .label-is in
+    let e : objectAt s (h .0) .label ≡ l = step-grown p (start p) (can .move) .same-objects (h .0) (h .1 .is-there) .same-label ∙ h .1 .label-is in
     (can .move ∷ [], subst (λ (z : ℕ). List·Memᴰ z (labelsHeld s (g .bag))) e (label-among (s .objects) (s .bags (g .bag)) (in-the-bag b (can .brings .holds-it))))

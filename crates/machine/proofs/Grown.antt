@@ -17,6 +17,7 @@ use Rattle.machine.specs.Variable.{Place, nowhere, bag, named, local, pl
 use Rattle.machine.specs.Property.{loadFrom, storeTo}
 use Rattle.machine.specs.Call.{enter, callOf, newOf, primOf, returnTo, handTo}
 use Rattle.machine.specs.Step.{Choice, Move, act, hand, grantOf, perform, step, run}
+use Rattle.machine.specs.Laws.{TakesNothingBack}
 use Rattle.machine.specs.Grown.{SameObject, SameFrame, Grown}
 
 same-object : (o : Object) → SameObject o o
@@ -238,10 +239,10 @@ module _ (p : Program) where
   grown-perform c s f (say.catch k y) = search parts
   grown-perform c s f (say.prim k x) = search parts
 
-  pub step-grown : (m : Move) (s : State) → Grown s (step p m s)
-  step-grown (act c) s = search (parts, grown-perform)
-  step-grown (hand f i) s = search parts
+  pub step-grown : (s : State) → TakesNothingBack p s
+  step-grown s (act c) = search (parts, grown-perform)
+  step-grown s (hand f i) = search parts
 
   pub run-grown : (moves : List Move) (s : State) → Grown s (run p moves s)
   run-grown [] s = grown-refl s
-  run-grown (m ∷ moves) s = grown-trans (step-grown m s) (run-grown moves (step p m s))
+  run-grown (m ∷ moves) s = grown-trans (step-grown s m) (run-grown moves (step p m s))

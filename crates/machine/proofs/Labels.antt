@@ -27,23 +27,23 @@ member-mem x (y ∷ ys) e = go (or-true (eqb x y) (member x ys) e) (member-mem x
 -- ---- which labels stand at the start
 
 -- the first list begins the second, and all its labels are in it
-pub record Begins (a b : List ℕ) : Type 0 where
+pub record Prefix (a b : List ℕ) : Type 0 where
   pub longer : length a ≤ length b
   pub same : (i : ℕ) → i < length a → getD b i 0 ≡ getD a i 0
   pub within : (l : ℕ) → List·Memᴰ l a → List·Memᴰ l b
 
-begins-refl : (a : List ℕ) → Begins a a
-begins-refl a = record { longer = omega arith; same = λ i h. refl; within = λ l m. m }
+prefix-refl : (a : List ℕ) → Prefix a a
+prefix-refl a = record { longer = omega arith; same = λ i h. refl; within = λ l m. m }
 
-begins-trans : {a b c : List ℕ} → Begins a b → Begins b c → Begins a c
-begins-trans h k =
+prefix-trans : {a b c : List ℕ} → Prefix a b → Prefix b c → Prefix a c
+prefix-trans h k =
     record { longer = omega arith; same = λ i l. k .same i (omega (arith, h .longer)) ∙ h .same i l; within = λ l m. k .within l (h .within l m) }
 
-label-begins : (l : ℕ) (a : List ℕ) → Begins a (withLabel l a) × List·Memᴰ l (withLabel l a)
+label-begins : (l : ℕ) (a : List ℕ) → Prefix a (withLabel l a) × List·Memᴰ l (withLabel l a)
 label-begins l a = go (member l a) refl
   where
-    go : (b : Bool) → member l a ≡ b → Begins a (cond b a (a ++ (l ∷ []))) × List·Memᴰ l (cond b a (a ++ (l ∷ [])))
-    go true e = (begins-refl a, member-mem l a e)
+    go : (b : Bool) → member l a ≡ b → Prefix a (cond b a (a ++ (l ∷ []))) × List·Memᴰ l (cond b a (a ++ (l ∷ [])))
+    go true e = (prefix-refl a, member-mem l a e)
     go false e = (
       record {
         longer = omega (arith, length-append a (l ∷ []));
@@ -59,22 +59,22 @@ pub data Listed (ls : List ℕ) : Filling → Type 0 where
   held-listed : (v l : ℕ) → List·Memᴰ l ls → Listed ls (held v l)
   nothing-listed : Listed ls nothing
 
-listed-more : {a b : List ℕ} {x : Filling} → Begins a b → Listed a x → Listed b x
+listed-more : {a b : List ℕ} {x : Filling} → Prefix a b → Listed a x → Listed b x
 listed-more g (property-listed l n m h k) = property-listed l n m (g .within l h) (g .within m k)
 listed-more g (held-listed v l h) = held-listed v l (g .within l h)
 listed-more g nothing-listed = nothing-listed
 
-filling-begins : (a : List ℕ) (x : Filling) → Begins a (labelsWith a x) × Listed (labelsWith a x) x
+filling-begins : (a : List ℕ) (x : Filling) → Prefix a (labelsWith a x) × Listed (labelsWith a x) x
 filling-begins a (property l n m) =
     let h = label-begins l a in
     let k = label-begins m (withLabel l a) in
-    (begins-trans (h .0) (k .0), property-listed l n m (k .0 .within l (h .1)) (k .1))
+    (prefix-trans (h .0) (k .0), property-listed l n m (k .0 .within l (h .1)) (k .1))
 filling-begins a (held v l) = let h = label-begins l a in (h .0, held-listed v l (h .1))
-filling-begins a nothing = (begins-refl a, nothing-listed)
+filling-begins a nothing = (prefix-refl a, nothing-listed)
 
-pub fillings-begin : (a : List ℕ) (xs : List Filling) → Begins a (labelsFrom a xs)
-fillings-begin a [] = begins-refl a
-fillings-begin a (x ∷ xs) = begins-trans (filling-begins a x .0) (fillings-begin (labelsWith a x) xs)
+pub fillings-begin : (a : List ℕ) (xs : List Filling) → Prefix a (labelsFrom a xs)
+fillings-begin a [] = prefix-refl a
+fillings-begin a (x ∷ xs) = prefix-trans (filling-begins a x .0) (fillings-begin (labelsWith a x) xs)
 
 pub fillings-listed : (a : List ℕ) (xs : List Filling) (x : Filling) → List·Memᴰ x xs → Listed (labelsFrom a xs) x
 fillings-listed a [] x m = absurd (List·Memᴰ·not-nil m)

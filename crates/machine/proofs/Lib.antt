@@ -23,6 +23,7 @@ pub mod Moving
 pub mod Calling
 pub mod Building
 pub mod Leaving
+pub mod Idle
 pub mod Running
 pub mod Labels
 pub mod Beginning

@@ -2,7 +2,7 @@
 use mathlib.Core.Path.{_≡_, refl, _∙_}
 use mathlib.Core.List.{List, [], _∷_, List·Memᴰ, List·Memᴰ·head, List·Memᴰ·tail}
 use mathlib.Core.Bool.{Bool, true, false, _||_}
-use mathlib.Core.Option.{Option, none, some}
+use mathlib.Core.Option.{Option, none}
 use Prim.Native.Nat.{ℕ, suc, _<_}
 use native.Mathlib.Omega.{arith}
 use native.Mathlib.Decide.{ℕ-discrete}
@@ -16,8 +16,8 @@ use Rattle.machine.specs.State.{Value, object, Object, State, noObject, 
 use Rattle.machine.specs.Variable.{globalObject}
 use Rattle.machine.specs.Property.{prototypeOfType, isGuest, prototypeFor, fresh, next}
 use Rattle.machine.specs.Grown.{Grown}
-use Rattle.machine.specs.Seen.{Writable}
-use Rattle.machine.specs.Effect.{Says, In, Can, Spares, Put, TypePrototype, plain, function, array, Prototype, of-host, of-guest, Made}
+use Rattle.machine.specs.Laws.{Makes, MakesFunction}
+use Rattle.machine.specs.Effect.{Spares, TypePrototype, plain, function, array, Prototype, of-host, of-guest, Made}
 use Rattle.machine.proofs.Grown.{grown-refl, grown-trans, grown-object, grown-write}
 use Rattle.machine.proofs.Writing.{writable-stays}
 use Rattle.machine.proofs.Sparing.{spares-both, spares-object, puts, put-since}
@@ -94,41 +94,36 @@ nothing-else x n j h = go (ℕ-discrete n 3) (ℕ-discrete j 0)
     go (yes e) (no e') = rw (eq-eqb n 3 e, ne-eqb j 0 e')
     go (yes e) (yes e') = absurd (h e e')
 
-module _ {p : Program} {s : State} {f k : ℕ} (here : In s f k) (global : globalObject < length (s .objects)) where
-  -- 19: y gets a new object of label l
-  pub make-makes : {y l q : ℕ} → Says p (say.make k y l) → Prototype p l q → Writable p s f y
-      → Can p s (λ s'. (i : ℕ) × Made s s' i f l q none × Put p s s' f y (object i))
-  make-makes {y = y} {l = l} says t w =
-      let c = can-take t in
-      let o = fresh l (prototypeFor p l (c .0)) f in
-      let s' = withObject s o in
-      let put = puts (next s) (writable-stays (grown-object s o) w) in
-      acts says here refl (prototypes (c .0) 0)
-      (λ _. (
-        length (s .objects),
-        made-stays (grown-refl s) (grown-write p s' f y (next s)) (put .spares) global (made-last s o (c .1) refl (λ n j h. refl)),
-        put-since (grown-object s o) (spares-object s o) put,
-      ))
+pub make-makes : (p : Program) (s : State) (f k : ℕ) → Makes p s f k
+make-makes p s f k here global y l q says t w =
+    let c = can-take t in
+    let o = fresh l (prototypeFor p l (c .0)) f in
+    let s' = withObject s o in
+    let put = puts (next s) (writable-stays (grown-object s o) w) in
+    acts says here refl (prototypes (c .0) 0)
+    (λ _. (
+      length (s .objects),
+      made-stays (grown-refl s) (grown-write p s' f y (next s)) (put .spares) global (made-last s o (c .1) refl (λ n j h. refl)),
+      put-since (grown-object s o) (spares-object s o) put,
+    ))
 
-  -- 20: y gets a new function of label l, and "Make function puts a fresh q under (3, 0)."
-  pub make-function-makes : {y l q a b : ℕ} → Says p (say.makeFunction k y l q) → Prototype p l a → Prototype p q b → Writable p s f y
-      → Can p s (λ s'. (i : ℕ) × (j : ℕ) × Made s s' i f l a (some (object j)) × Made s s' j f q b none × Put p s s' f y (object i))
-  make-function-makes {y = y} {l = l} {q = q} says t t' w =
-      let c = can-take t in
-      let c' = can-take t' in
-      let o' = fresh q (prototypeFor p q (c' .0)) f in
-      let o = withValue (fresh l (prototypeFor p l (c .0)) f) 3 0 (next s) in
-      let s' = withObject s o' in
-      let s'' = withObject s' o in
-      let both = grown-trans (grown-object s o') (grown-object s' o) in
-      let put = puts (next s') (writable-stays both w) in
-      let last = grown-write p s'' f y (next s') in
-      acts says here refl (prototypes (c .0) (c' .0))
-      (λ _. (
-        length (s' .objects),
-        length (s .objects),
-        made-stays (grown-object s o') last (put .spares) global (made-last s' o (c .1) refl (nothing-else (next s))),
-        made-stays (grown-refl s) (grown-trans (grown-object s' o) last) (spares-both (grown-object s' o) (spares-object s' o) (put .spares)) global
-            (made-last s o' (c' .1) refl (λ n j h. refl)),
-        put-since both (spares-both (grown-object s o') (spares-object s o') (spares-object s' o)) put,
-      ))
+pub make-function-makes : (p : Program) (s : State) (f k : ℕ) → MakesFunction p s f k
+make-function-makes p s f k here global y l q a b says t t' w =
+    let c = can-take t in
+    let c' = can-take t' in
+    let o' = fresh q (prototypeFor p q (c' .0)) f in
+    let o = withValue (fresh l (prototypeFor p l (c .0)) f) 3 0 (next s) in
+    let s' = withObject s o' in
+    let s'' = withObject s' o in
+    let both = grown-trans (grown-object s o') (grown-object s' o) in
+    let put = puts (next s') (writable-stays both w) in
+    let last = grown-write p s'' f y (next s') in
+    acts says here refl (prototypes (c .0) (c' .0))
+    (λ _. (
+      length (s' .objects),
+      length (s .objects),
+      made-stays (grown-object s o') last (put .spares) global (made-last s' o (c .1) refl (nothing-else (next s))),
+      made-stays (grown-refl s) (grown-trans (grown-object s' o) last) (spares-both (grown-object s' o) (spares-object s' o) (put .spares)) global
+          (made-last s o' (c' .1) refl (λ n j h. refl)),
+      put-since both (spares-both (grown-object s o') (spares-object s o') (spares-object s' o)) put,
+    ))

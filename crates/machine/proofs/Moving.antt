@@ -1,6 +1,6 @@
 -- Laws of copy, grant, load and store: for every program, state, frame and choice, what a step can bring about. Assumes nothing.
 use mathlib.Core.Path.{_≡_, refl}
-use mathlib.Core.List.{[], _∷_, List·Memᴰ}
+use mathlib.Core.List.{[], _∷_}
 use mathlib.Core.Bool.{true, false}
 use mathlib.Core.Option.{Option, none}
 use Prim.Native.Nat.{ℕ, _<_}
@@ -8,13 +8,13 @@ use native.Mathlib.Omega.{arith}
 use borrow.Author.Tests.{eq-eqb}
 use lib.ListN.{length, length-append, List·getD-append}
 use lib.Seq.{getD-set-same, getD-append-seam}
-use Rattle.format.specs.Sheet.{builtIn}
 use Rattle.program.specs.Statement as say
 use Rattle.program.specs.Program.{Program, namesOf}
-use Rattle.machine.specs.State.{Value, primitive, object, Object, State, noObject, objectAt, orPrimitive, withObject, setObject, withValue}
+use Rattle.machine.specs.State.{Value, object, Object, State, noObject, objectAt, orPrimitive, withObject, setObject, withValue}
 use Rattle.machine.specs.Property.{prototypeFor, fresh}
-use Rattle.machine.specs.Seen.{Finds, own, inherited, lacking, Reads, Writable}
-use Rattle.machine.specs.Effect.{Says, In, Can, Put, Gives, gives-found, gives-primitive, Stored, Prototype}
+use Rattle.machine.specs.Seen.{Finds, own, inherited, lacking}
+use Rattle.machine.specs.Laws.{GrantsToGuest, GrantsFromGuest, Copies, Loads, LoadsOnPrimitive, Stores}
+use Rattle.machine.specs.Effect.{Gives, gives-found, gives-primitive, Stored}
 use Rattle.machine.proofs.Grown.{grown-object}
 use Rattle.machine.proofs.Outward.{begins-there, value-found}
 use Rattle.machine.proofs.Reading.{before, can-read}
@@ -58,47 +58,34 @@ stores {s} i n j x l =
 
 -- ---- copy and grant
 
--- 6: "A grant copies between v and 1 each way"; "A grant is a step of the top frame"
-pub grant-to-guest : {p : Program} {s : State} {f v b : ℕ} {x : Value} → In s f 0 → Says p (say.grant v b) → Reads p s f v x → Writable p s f b
-    → Can p s (λ s'. Put p s s' f b x)
-grant-to-guest {x = x} here says h w = let r = can-read h in acts says here refl (granting (r .0) true) (λ i. rw (r .1) (puts x w))
+pub grant-to-guest : (p : Program) (s : State) → GrantsToGuest p s
+grant-to-guest p s f v b x here says h w = let c = can-read h in acts says here refl (granting (c .0) true) (λ _. rw (c .1) (puts x w))
 
-pub grant-from-guest : {p : Program} {s : State} {f v b : ℕ} {x : Value} → In s f 0 → Says p (say.grant v b) → Reads p s f b x → Writable p s f v
-    → Can p s (λ s'. Put p s s' f v x)
-grant-from-guest {x = x} here says h w = let r = can-read h in acts says here refl (granting (r .0) false) (λ i. rw (r .1) (puts x w))
+pub grant-from-guest : (p : Program) (s : State) → GrantsFromGuest p s
+grant-from-guest p s f v b x here says h w = let c = can-read h in acts says here refl (granting (c .0) false) (λ _. rw (c .1) (puts x w))
 
-module _ {p : Program} {s : State} {f k : ℕ} (here : In s f k) where
-  -- 16: a copy puts in y what the source holds
-  pub copy-copies : {y v : ℕ} {x : Value} → Says p (say.copy k y v) → Reads p s f v x → Writable p s f y → Can p s (λ s'. Put p s s' f y x)
-  copy-copies {x = x} says h w = let r = can-read h in acts says here refl (fields (λ j. r .0)) (λ i. rw (r .1) (puts x w))
+pub copy-copies : (p : Program) (s : State) (f k : ℕ) → Copies p s f k
+copy-copies p s f k here y v x says h w = let c = can-read h in acts says here refl (fields (λ j. c .0)) (λ _. rw (c .1) (puts x w))
 
-  -- ---- load
+-- ---- load and store
 
-  -- 17: "Load looks outward along the prototypes" under any name of the key and any number; "nothing found is a primitive"
-  pub load-loads : {y v key w i n j : ℕ} {r : Option Value} {x : Value} → Says p (say.load k y v key w) → Reads p s f v (object i)
-      → List·Memᴰ n (namesOf (p .sheet) key) → Finds s n j i r → Gives r x → Writable p s f y → Can p s (λ s'. Put p s s' f y x)
-  load-loads {key = key} {n = n} {j = j} {x = x} says h m d g w =
-      let c = can-read h in
-      acts says here refl (pair (λ j. c .0) n j 0) (λ _. rw (is-member n (namesOf (p .sheet) key) m, c .1, value-found d, given g) (puts x w))
+pub load-loads : (p : Program) (s : State) (f k : ℕ) → Loads p s f k
+load-loads p s f k here y v key w i n j r x says h m d g a =
+    let c = can-read h in
+    acts says here refl (pair (λ j. c .0) n j 0) (λ _. rw (is-member n (namesOf (p .sheet) key) m, c .1, value-found d, given g) (puts x a))
 
-  -- "on a primitive starting from a fresh object w", whose prototype is any that an object of label w may take
-  pub load-on-primitive : {y v key w q n j : ℕ} {r : Option Value} {x : Value} → Says p (say.load k y v key w) → Reads p s f v primitive
-      → List·Memᴰ n (namesOf (p .sheet) key) → Prototype p w q → Finds s n j q r → Gives r x → Writable p s f y → Can p s (λ s'. Put p s s' f y x)
-  load-on-primitive {key = key} {w = w} {n = n} {j = j} {x = x} says h m t d g a =
-      let c = can-read h in
-      let q = can-take t in
-      let o = fresh w (prototypeFor p w (q .0)) f in
-      let put = puts x (writable-stays (grown-object s o) a) in
-      acts says here refl (pair (λ j. c .0) n j (q .0))
-      (λ _.
-      rw (is-member n (namesOf (p .sheet) key) m, c .1, value-found (finds-from o refl (q .1) d), given g) (put-since (grown-object s o) (spares-object s o) put))
+pub load-on-primitive : (p : Program) (s : State) (f k : ℕ) → LoadsOnPrimitive p s f k
+load-on-primitive p s f k here y v key w q n j r x says h m t d g a =
+    let c = can-read h in
+    let z = can-take t in
+    let o = fresh w (prototypeFor p w (z .0)) f in
+    let put = puts x (writable-stays (grown-object s o) a) in
+    acts says here refl (pair (λ j. c .0) n j (z .0))
+    (λ _.
+    rw (is-member n (namesOf (p .sheet) key) m, c .1, value-found (finds-from o refl (z .1) d), given g) (put-since (grown-object s o) (spares-object s o) put))
 
-  -- ---- store
-
-  -- 18: the value goes under any pair that the key allows, of any object that is not built-in
-  pub store-puts : {v key a i n j : ℕ} {x : Value} → Says p (say.store k v key a) → Reads p s f v (object i) → Reads p s f a x → i < length (s .objects)
-      → builtIn (p .sheet) (objectAt s i .label) ≡ false → List·Memᴰ n (namesOf (p .sheet) key) → Can p s (λ s'. Stored s s' i n j x)
-  store-puts {key = key} {i = i} {n = n} {j = j} {x = x} says h h' l b m =
-      let r = can-read h in
-      let r' = can-read h' in
-      acts says here refl (pair (before (r .0) (λ j. r' .0)) n j 0) (λ _. rw (is-member n (namesOf (p .sheet) key) m, r .1, r' .1, b) (stores i n j x l))
+pub store-stores : (p : Program) (s : State) (f k : ℕ) → Stores p s f k
+store-stores p s f k here v key a i n j x says h h' l b m =
+    let c = can-read h in
+    let c' = can-read h' in
+    acts says here refl (pair (before (c .0) (λ j. c' .0)) n j 0) (λ _. rw (is-member n (namesOf (p .sheet) key) m, c .1, c' .1, b) (stores i n j x l))

@@ -4,7 +4,7 @@ use mathlib.Core.List.{List, [], _∷_, _++_}
 use Rattle.program.specs.Program.{Program}
 use Rattle.machine.specs.State.{State}
 use Rattle.machine.specs.Step.{Move, step, run}
-use Rattle.machine.specs.Effect.{Can}
+use Rattle.machine.specs.Laws.{RunsGoOn}
 
 -- "A run is a finite list of steps, the empty one too"
 pub run-of-none : (p : Program) (s : State) → run p [] s ≡ s
@@ -15,6 +15,5 @@ pub run-of-more : (p : Program) (moves : List Move) (m : Move) (s : State) → r
 run-of-more p [] m s = refl
 run-of-more p (n ∷ moves) m s = run-of-more p moves m (step p n s)
 
--- so a run that reached a state from which a step brings something about can be made one that brings it about
-pub run-goes-on : {E : State → Type 0} (p : Program) (moves : List Move) (s : State) → Can p (run p moves s) E → (longer : List Move) × E (run p longer s)
-run-goes-on {E} p moves s can = (moves ++ (can .move ∷ []), subst E (sym (run-of-more p moves (can .move) s)) (can .brings))
+pub run-goes-on : (p : Program) (s : State) → RunsGoOn p s
+run-goes-on p s moves E can = (moves ++ (can .move ∷ []), subst E (sym (run-of-more p moves (can .move) s)) (can .brings))

@@ -4,14 +4,12 @@ use mathlib.Core.List.{List, _∷_, List·Memᴰ, List·Memᴰ·head, List·Mem�
 use Prim.Native.Nat.{ℕ}
 use Rattle.program.specs.Statement.{Statement}
 use Rattle.program.specs.Program.{Program, Guest, noRecord, guestStatements, placed, guestsStatements, statements}
-use Rattle.machine.specs.Effect.{Says, GuestSays}
+use Rattle.machine.specs.Laws.{RecordsSay, GuestsSay}
+use Rattle.machine.specs.Effect.{Says}
 
--- what a record says
-pub host-says : (p : Program) {at : ℕ} {a : Statement} → List·Memᴰ (at, a) (p .host) → Says p a
+pub host-says : (p : Program) → RecordsSay p
 unfolding statements
-host-says p {at} m = (at, Memᴰ·append-right (guestsStatements (p .guests)) m)
-
--- ---- "Allowed to the guest are the statements that the rules give it."
+host-says p at a m = (at, Memᴰ·append-right (guestsStatements (p .guests)) m)
 
 placed-in : {a : Statement} {l : List Statement} (at : ℕ) → List·Memᴰ a l → List·Memᴰ (at, a) (placed at l)
 placed-in at (List·Memᴰ·head e) = List·Memᴰ·head (ap (λ (z : Statement). (at, z)) e)
@@ -26,9 +24,9 @@ said : {a : Statement} {g : Guest} (p : Program) → List·Memᴰ g (p .guests) 
 unfolding statements
 said p n m = (noRecord, Memᴰ·append-left (p .host) (among-guests n m))
 
-pub guest-says : (p : Program) {g : Guest} → List·Memᴰ g (p .guests) → GuestSays p g
+pub guest-says : (p : Program) → GuestsSay p
 unfolding guestStatements
-guest-says p n =
+guest-says p g n =
     record {
       makes-function = said p n (List·Memᴰ·head refl);
       loads = said p n (search (List·Memᴰ·head, List·Memᴰ·tail) depth 9);

@@ -6,7 +6,7 @@ use mathlib.Core.Bool.{Bool, true}
 use mathlib.Core.Option.{Option, none, some}
 use Prim.Native.Nat.{ℕ, _≤_, _<_}
 use lib.ListN.{length, replicate}
-use Rattle.format.specs.Sheet.{typeOf}
+use Rattle.format.specs.Sheet.{typeOf, builtIn}
 use Rattle.program.specs.Statement.{Statement, load, store, makeFunction, call, new, return, throw, catch}
 use Rattle.program.specs.Program.{Program, Guest, statements, thisOf, formalsOf}
 use Rattle.machine.specs.State.{Value, primitive, object, State, objectAt, frameAt}
@@ -124,3 +124,15 @@ pub record Built (p : Program) (s s' : State) (i f y t l q : ℕ) (arguments : L
   pub in-y : Lasts p y (entering p (objectAt s i .label)) → Writable p s f y → Holds p s' f y (object new-object)
   pub called : Called p s s' i f y true (object new-object) arguments
   pub spares : Spares p s s' (t ∷ y ∷ entering p (objectAt s i .label))
+
+-- ---- what does nothing
+
+-- "what is no function"
+pub data NoFunction (p : Program) (s : State) : Value → Type 0 where
+  primitive-is-none : NoFunction p s primitive
+  object-is-none : (i : ℕ) → (typeOf (p .sheet) (objectAt s i .label) ≡ 2 → ⊥) → NoFunction p s (object i)
+
+-- "primitives or built-in objects"
+pub data NoStore (p : Program) (s : State) : Value → Type 0 where
+  into-primitive : NoStore p s primitive
+  into-built-in : (i : ℕ) → builtIn (p .sheet) (objectAt s i .label) ≡ true → NoStore p s (object i)

@@ -1,5 +1,5 @@
--- The handset machine: its states, its lookups, its variables, its objects, its calls, its steps and its start; and what its laws speak of (Grown to
--- Begun), which nobody has to believe.
+-- The handset machine: its states, its lookups, its variables, its objects, its calls, its steps and its start; and its laws (Laws) with what they speak
+-- of (Grown to Begun), which nobody has to believe.
 pub mod State
 pub mod Lookup
 pub mod Variable
@@ -11,3 +11,4 @@ pub mod Grown
 pub mod Seen
 pub mod Effect
 pub mod Begun
+pub mod Laws
