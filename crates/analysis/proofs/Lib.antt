@@ -7,3 +7,4 @@ pub mod Naming
 pub mod Least
 pub mod Held
 pub mod Traps
+pub mod Uses
