@@ -16,6 +16,7 @@ use Rattle.format.specs.Reading.{readFile, Readable}
 use Rattle.program.specs.Statement as say
 use Rattle.program.specs.Program.{Program, Guest, programOf, statements, isFunction, formalsOf}
 use Rattle.analysis.specs.Rules.{looking, passing, entering, calling, ruleOf, parentsOf, chainRule, guestChains, rules}
+use Rattle.analysis.proofs.Examples  -- first: a wrong rule is to meet an example before a proof that no longer fits it
 use Rattle.analysis.proofs.Stated.{Keyed, AllBelow, Stated, AllStated}
 use Rattle.analysis.proofs.Proper.{AllProper, Proper, readable-proper}
 use Rattle.analysis.proofs.Returned.{returns-below}
@@ -67,7 +68,7 @@ module _ (L : ℕ) (p : Program) (o : Proper L p) where
     hc,
     λ f hf. when-fits L (isFunction (p .sheet) f) (entering p k y t args f) (
       (o .formal-below (7 * f), ht),
-      (passing-fits (formalsOf (p .sheet) f) args (formals-below f) ha, ((λ x i. (hy, returns-below L p o _ x i)), (omega arith, omega arith))),
+      (passing-fits (formalsOf (p .sheet) f) args (formals-below f) ha, ((λ x i. (hy, returns-below L p o f x i)), (hk, hf))),
     ),
   )
 
@@ -78,7 +79,7 @@ module _ (L : ℕ) (p : Program) (o : Proper L p) where
   rule-fits (say.held v l) h = (h .0, o .below l (h .1))
   rule-fits (say.copy k y x) h = (h .1, h .2)
   rule-fits (say.load k y x key w) h =
-      ((omega arith, o .below w (h .4)), (looking-fits _ key w (omega arith) (h .3) (o .below w (h .4)), (h .2, λ l hl. looking-fits y key l (h .1) (h .3) hl)))
+      ((h .2, o .below w (h .4)), (looking-fits y key w (h .1) (h .3) (o .below w (h .4)), (h .2, λ l hl. looking-fits y key l (h .1) (h .3) hl)))
   rule-fits (say.store k x key a) h = (h .1, λ l hl. when-fits L (not (builtIn (p .sheet) l)) _ (λ n i. ((hl, h .2 n i), h .3)))
   rule-fits (say.make k y l) h = (h .1, o .below l (h .2))
   rule-fits (say.makeFunction k y l q) h = ((h .1, o .below l (h .2)), ((o .below l (h .2), omega arith), o .below q (h .3)))
@@ -102,7 +103,7 @@ module _ (L : ℕ) (p : Program) (o : Proper L p) where
       hl,
       λ m hm n i. (
         (hm, in-list (λ j. j < 32) 1 (2 ∷ []) (omega arith) (in-list (λ j. j < 32) 2 [] (omega arith) (in-none (λ j. j < 32))) n i),
-        λ f hf. when-fits L (isFunction (p .sheet) f) _ ((o .formal-below (7 * f), omega arith), (o .below k (h .0), hf)),
+        λ f hf. when-fits L (isFunction (p .sheet) f) _ ((o .formal-below (7 * f), h .1), (o .below k (h .0), hf)),
       ),
     ),
   )
@@ -131,7 +132,7 @@ module _ (L : ℕ) (p : Program) (o : Proper L p) where
         all-parents (λ j. j < L) (o .below 1 (o .object-declared)) (o .below 2 (o .function-declared)) (o .below 4 (o .array-declared))
             (typeOf (p .sheet) l) m i,
       )),
-      (h, λ m hm. (h, omega arith)),
+      (h, λ m hm. (h, hm)),
     ),
   )
 

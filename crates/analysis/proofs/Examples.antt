@@ -1,6 +1,6 @@
--- One use of each rule on a table of a few facts, computed: which rows it changes, and what they hold then. A rule that lacks a part, or has another
--- variable or label in its place, changes other rows. Beside them the least table of a file that takes three rounds. There are 8 labels; the
--- program has a plain label 5, a function 6 with this variable 2 and first formal 3, which returns variable 4, and no guest. Assumes nothing.
+-- Examples, computed: one use of a rule on a table of a few facts, which rows it changes and what they hold then; and a least table. A rule that
+-- lacks a part, or has another variable or label in its place, changes other rows. There are 8 labels; the program has a plain label 5, a function
+-- 6 with this variable 2 and first formal 3, which returns variable 4, and no guest. Assumes nothing.
 use mathlib.Core.Path.{_≡_, refl}
 use mathlib.Core.List.{List, [], _∷_}
 use mathlib.Core.Bool.{cond}
@@ -100,7 +100,8 @@ chain-adds = refl
 
 -- ---- the least table
 
--- 12 has its labels from 11, 11 from 10, and 10 holds 5: it takes a round for each
-three-rounds : getD (leastTable 8 (program ((0, say.copy 0 12 11) ∷ (4, say.copy 0 11 10) ∷ (8, say.held 10 5) ∷ []))) 12 0 ≡ 2 ^ 5
-unfolding leastTable program statements chosen
+-- of the only label 0: variable 4 has its labels from 3, 3 from 2, and 2 holds 0, a round for each
+three-rounds :
+    getD (leastTable 1 (record { sheet = start 1; host = (0, say.copy 0 4 3) ∷ (4, say.copy 0 3 2) ∷ (8, say.held 2 0) ∷ []; guests = [] })) 4 0 ≡ 1
+unfolding leastTable start statements chosen
 three-rounds = refl
