@@ -16,6 +16,7 @@ use Rattle.format.specs.Reading.{readFile, Readable}
 use Rattle.program.specs.Statement as say
 use Rattle.program.specs.Program.{Program, Guest, programOf, statements, isFunction, formalsOf}
 use Rattle.analysis.specs.Rules.{looking, passing, entering, calling, ruleOf, parentsOf, chainRule, guestChains, rules}
+use Rattle.analysis.proofs.Examples  -- first: a wrong rule is to meet an example before a proof that no longer fits it
 use Rattle.analysis.proofs.Stated.{Keyed, AllBelow, Stated, AllStated}
 use Rattle.analysis.proofs.Proper.{AllProper, Proper, readable-proper}
 use Rattle.analysis.proofs.Returned.{returns-below}

@@ -1,4 +1,5 @@
 -- What holds of the rules of a readable file, and of their least table. Assumes nothing.
+pub mod Examples
 pub mod Stated
 pub mod Proper
 pub mod Returned

@@ -12,6 +12,15 @@ use Rattle.layout.specs.Layout.{Class, name, mask, newLabel, type, flag, anyLab
 use Rattle.format.specs.Sheet.{Sheet}
 use Rattle.format.specs.Fields.{good, refusalOf, Fits, firstBad}
 
+-- "from the left": the first bad byte decides, whatever stands after it
+pub first-bad-leftmost : (L : ℕ) (s : Sheet) (cs : List Class) (bs : List ℕ) (c : Class) (b : ℕ) (cs' : List Class) (bs' : List ℕ) → Fits L s cs bs
+    → good L s c b ≡ false → firstBad L s (cs ++ c ∷ cs') (bs ++ b ∷ bs') ≡ refusalOf c
+unfolding Fits firstBad
+first-bad-leftmost L s [] [] c b cs' bs' f e = rw e
+first-bad-leftmost L s [] (x ∷ bs) c b cs' bs' f e = absurd f
+first-bad-leftmost L s (k ∷ cs) [] c b cs' bs' f e = absurd f
+first-bad-leftmost L s (k ∷ cs) (x ∷ bs) c b cs' bs' f e = rw (f .0) (first-bad-leftmost L s cs bs c b cs' bs' (f .1) e)
+
 -- a bad byte is refused with 3, 4 or 5
 pub refusal-range : (c : Class) → (3 ≤ refusalOf c) × (refusalOf c ≤ 5)
 unfolding refusalOf
@@ -82,12 +91,3 @@ fits-good L s [] bs f j h = absurd (not-suc-le-zero h)
 fits-good L s (c ∷ cs) [] f j h = absurd f
 fits-good L s (c ∷ cs) (b ∷ bs) f zero h = f .0
 fits-good L s (c ∷ cs) (b ∷ bs) f (suc j) h = fits-good L s cs bs (f .1) j (le-of-suc-le-suc h)
-
--- "from the left": the first bad byte decides, whatever stands after it
-pub first-bad-leftmost : (L : ℕ) (s : Sheet) (cs : List Class) (bs : List ℕ) (c : Class) (b : ℕ) (cs' : List Class) (bs' : List ℕ) → Fits L s cs bs
-    → good L s c b ≡ false → firstBad L s (cs ++ c ∷ cs') (bs ++ b ∷ bs') ≡ refusalOf c
-unfolding Fits firstBad
-first-bad-leftmost L s [] [] c b cs' bs' f e = rw e
-first-bad-leftmost L s [] (x ∷ bs) c b cs' bs' f e = absurd f
-first-bad-leftmost L s (k ∷ cs) [] c b cs' bs' f e = absurd f
-first-bad-leftmost L s (k ∷ cs) (x ∷ bs) c b cs' bs' f e = rw (f .0) (first-bad-leftmost L s cs bs c b cs' bs' (f .1) e)

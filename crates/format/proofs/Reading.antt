@@ -2,14 +2,12 @@
 -- which reading stops, and reading says so. Assumes nothing.
 use mathlib.Core.Path.{_≡_, refl, sym, ap, _∙_}
 use mathlib.Core.List.{List, [], _∷_, _++_, append-assoc}
-use mathlib.Core.Bool.{cond}
 use Prim.Native.Nat.{ℕ, zero, suc, _+_, _≤_}
 use native.Mathlib.Nat.{le-refl}
 use native.Mathlib.Omega.{arith}
 use native.Mathlib.Decide.{ℕ-discrete}
 use lib.ListN.{length, take, drop, length-append, length-drop, take-append-drop}
 use lib.Seq.{take-at, drop-at}
-use lib.Dec.{eqb}
 use borrow.Author.Tests.{eq-eqb, ne-eqb}
 use Rattle.layout.specs.Layout.{bodyLength}
 use Rattle.format.specs.Sheet.{Sheet}
@@ -33,11 +31,16 @@ fuel-enough L (suc f) (suc g) s at (k ∷ xs) p q =
     let l : length (drop n xs) ≤ length xs = simp length-drop (omega arith) in
     let e : readOn L f (after s k (take n xs)) (at + 1 + n) (drop n xs) ≡ readOn L g (after s k (take n xs)) (at + 1 + n) (drop n xs) =
     fuel-enough L f g (after s k (take n xs)) (at + 1 + n) (drop n xs) (omega arith) (omega arith) in
-    ap (λ (d : Reading). cond (eqb (recordRefusal L s k xs) 0) (preceded at (record { kind = k; body = take n xs }) d) (stopped s (recordRefusal L s k xs) at)) e
+    rw e
 
 pub read-end : (L : ℕ) (s : Sheet) (at : ℕ) → readFrom L s at [] ≡ stopped s 0 at
 unfolding readFrom readOn
 read-end L s at = refl
+
+-- the position of a refusal is that of the kind byte of the record refused
+pub refused-position : (L : ℕ) (s : Sheet) (at k : ℕ) (xs : List ℕ) → (recordRefusal L s k xs ≡ 0 → ⊥) → readFrom L s at (k ∷ xs) .position ≡ at
+unfolding readFrom readOn
+refused-position L s at k xs h = rw (ne-eqb _ _ h)
 
 pub read-refused : (L : ℕ) (s : Sheet) (at k : ℕ) (xs : List ℕ) → (recordRefusal L s k xs ≡ 0 → ⊥)
     → readFrom L s at (k ∷ xs) ≡ stopped s (recordRefusal L s k xs) at

@@ -139,7 +139,7 @@ unfolding good
 returns-17 c =
     let r = c .before .before .match .rest in
     let m : 16 ≤ c .before .before .before .before .before .args .class = beyond 16 _ r in
-    rw (class-rest _ m) (rw (← c .before .both6 .ensures) (c .either5 .ensures))
+    rw (class-rest _ m) (rw (c .before .both6 .ensures) at (c .either5 .ensures))
 
 pub is-good-spec : {M : Type 1} → statement M
 is-good-spec =

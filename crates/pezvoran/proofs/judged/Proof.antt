@@ -1,11 +1,12 @@
 -- `pezvoran::judged` meets its contract. Assumes nothing.
+use mathlib.Core.Path.{refl}
 use borrow.Author.Tests.{eq-eqb, ne-eqb}
 use borrow.Author.Needs.{needs}
 use Rattle.pezvoran.proofs.judged.Statement.{statement}
 use Rattle.pezvoran.proofs.judged.Tie as tie
 
 returns : tie.Need-returns
-returns c = (rw (eq-eqb _ _ (c .if1 .taken)), tt)
+returns c = (rw (eq-eqb _ _ (c .if1 .taken)) refl, tt)
 
 lowest-label-requires : tie.Need-lowest-label-requires
 lowest-label-requires c κs = search needs
