@@ -169,8 +169,9 @@ pub any-number : EndsWith
     loads 0 10 2 ∷
     atPair (host (load 0 4 3 4 6)) 0 [] 4 2 ∷
     grants 4 ∷
+    grants 4 ∷
     [])
-    (6 ∷ 5 ∷ [])
+    (6 ∷ 5 ∷ 5 ∷ [])
 unfolding outcome
 any-number = refl
 

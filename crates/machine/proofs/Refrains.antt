@@ -1,4 +1,4 @@
--- Runs that must not reach the journal: the machine does no more than document 01 says. Assumes nothing.
+-- Runs in which the machine does no more than document 01 says: most end without the journal. Assumes nothing.
 use mathlib.Core.Path.{refl}
 use mathlib.Core.List.{[], _∷_, _++_}
 use Rattle.program.proofs.File.{name, plain, functionLabel, builtInPlain, takes, function, variable, local, named, grant, property, held, copy, load, store, call, new, return, throw, catch, prim, forbidden, journal}
