@@ -17,7 +17,7 @@ use Rattle.machine.specs.Start.{Filling, property, held, nothing, fillings, fir
 use Rattle.soundness.specs.Founded.{ObjectBelow, primitive-below, object-below, no-frame-below, frame-below, no-caller-below, FrameFounded, Founded}
 use Rattle.soundness.proofs.Values.{Keeps, keeps-refl, keeps-trans, keeps-set}
 use Rattle.soundness.proofs.Variables.{write-untouched}
-use Rattle.machine.proofs.Labels.{Listed, property-listed, held-listed, place-of, length-start, object-is, fillings-begin, fillings-listed}
+use Rattle.machine.proofs.laws.Labels.{Listed, property-listed, held-listed, place-of, length-start, object-is, fillings-begin, fillings-listed}
 use Rattle.soundness.proofs.Founded.{founded-value}
 use Rattle.soundness.proofs.FoundedSteps.{write-founded, prototype-below, bare-founded}
 use Rattle.soundness.proofs.FoundedRuns.{run-founded}

@@ -29,7 +29,7 @@ use Rattle.machine.specs.Start.{Filling, property, held, nothing, fillingOf, fi
 use Rattle.soundness.proofs.States.{Declared}
 use Rattle.soundness.proofs.Setting.{Sensible, guestChain, Setting}
 use Rattle.soundness.proofs.Statements.{programWith, start-declared, all-sensible, name-listed}
-use Rattle.machine.proofs.Labels.{Fills, property-fills, held-fills, nothing-fills, fills}
+use Rattle.machine.proofs.laws.Labels.{Fills, property-fills, held-fills, nothing-fills, fills}
 use Rattle.soundness.proofs.Start.{host-statement}
 
 -- ---- the labels of the start

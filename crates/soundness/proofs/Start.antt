@@ -22,7 +22,7 @@ use Rattle.soundness.proofs.Values.{Keeps, keeps-refl, keeps-trans, kee
 use Rattle.soundness.proofs.States.{Declared, empty-described, new-frame, described-value}
 use Rattle.soundness.proofs.Setting.{Setting, type-prototype}
 use Rattle.soundness.proofs.Variables.{write-described, write-untouched}
-use Rattle.machine.proofs.Labels.{Listed, property-listed, held-listed, Fills, property-fills, held-fills, nothing-fills, fills, place-of, length-start, fillings-begin, fillings-listed}
+use Rattle.machine.proofs.laws.Labels.{Listed, property-listed, held-listed, Fills, property-fills, held-fills, nothing-fills, fills, place-of, length-start, fillings-begin, fillings-listed}
 
 pub host-statement : (p : Program) (at : ℕ) (a : say.Statement) → List·Memᴰ (at, a) (p .host) → List·Memᴰ (at, a) (statements p)
 unfolding statements

@@ -19,7 +19,7 @@ use Rattle.machine.specs.Variable.{read, readAll, write}
 use Rattle.machine.specs.Property.{loadFrom, storeTo}
 use Rattle.machine.specs.Call.{primOf, handTo}
 use Rattle.machine.specs.Step.{Choice, Move, act, hand, scopeOf, inScope, member, primNames, grantOf, thrownIn, isThrown, perform, statementAt, makesSense, step, run}
-use Rattle.machine.proofs.Labels.{member-mem}
+use Rattle.machine.proofs.laws.Labels.{member-mem}
 use Rattle.soundness.specs.Described.{Described}
 use Rattle.soundness.proofs.Values.{allowed-more}
 use Rattle.soundness.proofs.States.{described-thrown, described-cond}

@@ -2,7 +2,7 @@
 use mathlib.Core.Path.{refl}
 use mathlib.Core.List.{[], _∷_, _++_}
 use Rattle.program.proofs.File.{plain, functionLabel, takes, function, variable, local, named, grant, property, held, copy, store, makeFunction, call, new, return, throw, catch, prim, forbidden, journal}
-use Rattle.machine.proofs.Run.{guestMakeFunction, guestCall, host, atPair, picks, does, hands, grants, lends, loads, outcome, EndsWith}
+use Rattle.machine.proofs.runs.Run.{guestMakeFunction, guestCall, host, atPair, picks, does, hands, grants, lends, loads, outcome, EndsWith}
 
 -- a copy at the top level
 pub copied : EndsWith

@@ -18,10 +18,10 @@ use Rattle.machine.specs.Property.{prototypeOfType, isGuest, prototypeFo
 use Rattle.machine.specs.Grown.{Grown}
 use Rattle.machine.specs.Laws.{Makes, MakesFunction}
 use Rattle.machine.specs.Effect.{Spares, TypePrototype, plain, function, array, Prototype, of-host, of-guest, Made}
-use Rattle.machine.proofs.Grown.{grown-refl, grown-trans, grown-object, grown-write}
-use Rattle.machine.proofs.Writing.{writable-stays}
-use Rattle.machine.proofs.Sparing.{spares-both, spares-object, puts, put-since}
-use Rattle.machine.proofs.Acting.{prototypes, acts}
+use Rattle.machine.proofs.laws.Grown.{grown-refl, grown-trans, grown-object, grown-write}
+use Rattle.machine.proofs.laws.Writing.{writable-stays}
+use Rattle.machine.proofs.laws.Sparing.{spares-both, spares-object, puts, put-since}
+use Rattle.machine.proofs.laws.Acting.{prototypes, acts}
 
 -- ---- prototypes
 

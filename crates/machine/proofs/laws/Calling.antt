@@ -14,12 +14,12 @@ use Rattle.machine.specs.Call.{frameOf, enter}
 use Rattle.machine.specs.Step.{member, primNames}
 use Rattle.machine.specs.Laws.{Calls, Prims}
 use Rattle.machine.specs.Effect.{Spares, entering, Called}
-use Rattle.machine.proofs.Grown.{grown-frame, grown-write-all}
-use Rattle.machine.proofs.Outward.{value-found}
-use Rattle.machine.proofs.Reading.{can-read}
-use Rattle.machine.proofs.Writing.{write-all-number, writable-was, all-written}
-use Rattle.machine.proofs.Sparing.{spares-both, spares-frame, spares-write-all}
-use Rattle.machine.proofs.Acting.{fields, pair, acts, can-read-call}
+use Rattle.machine.proofs.laws.Grown.{grown-frame, grown-write-all}
+use Rattle.machine.proofs.laws.Outward.{value-found}
+use Rattle.machine.proofs.laws.Reading.{can-read}
+use Rattle.machine.proofs.laws.Writing.{write-all-number, writable-was, all-written}
+use Rattle.machine.proofs.laws.Sparing.{spares-both, spares-frame, spares-write-all}
+use Rattle.machine.proofs.laws.Acting.{fields, pair, acts, can-read-call}
 
 -- ---- a function is entered
 

@@ -13,8 +13,8 @@ use Rattle.machine.specs.Call.{throwIn}
 use Rattle.machine.specs.Grown.{Grown}
 use Rattle.machine.specs.Seen.{Holds, in-bag, in-global, in-frame, Writable}
 use Rattle.machine.specs.Effect.{Spares, Put}
-use Rattle.machine.proofs.Grown.{grown-object, grown-frame, grown-thrown, grown-write}
-use Rattle.machine.proofs.Writing.{nearest-there, nearest-stays, field-set, pair-stays, write-spares, written}
+use Rattle.machine.proofs.laws.Grown.{grown-object, grown-frame, grown-thrown, grown-write}
+use Rattle.machine.proofs.laws.Writing.{nearest-there, nearest-stays, field-set, pair-stays, write-spares, written}
 
 pub spares-all : {p : Program} (s : State) (vs : List ℕ) → Spares p s s vs
 spares-all s vs = record { variables-stay = λ f v x a h. h; pairs-stay = λ i n j l a. refl }

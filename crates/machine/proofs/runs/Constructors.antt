@@ -2,7 +2,7 @@
 use mathlib.Core.Path.{refl}
 use mathlib.Core.List.{[], _∷_, _++_}
 use Rattle.program.proofs.File.{plain, functionLabel, takes, function, variable, local, grant, property, held, load, store, makeFunction, call, new, return, throw, forbidden, journal}
-use Rattle.machine.proofs.Run.{guestMakeFunction, guestCall, guestNew, guestCatch, host, atPair, picks, does, hands, grants, lends, loads, outcome, EndsWith}
+use Rattle.machine.proofs.runs.Run.{guestMakeFunction, guestCall, guestNew, guestCatch, host, atPair, picks, does, hands, grants, lends, loads, outcome, EndsWith}
 
 -- the host makes the journal by `new` on a guest function, whose this it is; the bag also gets the six arguments
 pub new-on-guest : EndsWith

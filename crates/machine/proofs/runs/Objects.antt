@@ -2,7 +2,7 @@
 use mathlib.Core.Path.{refl}
 use mathlib.Core.List.{[], _∷_, _++_}
 use Rattle.program.proofs.File.{name, plain, functionLabel, array, takes, function, variable, local, grant, property, held, load, store, make, makeFunction, new, return, forbidden, journal}
-use Rattle.machine.proofs.Run.{guestCall, host, atPair, picks, does, grants, loads, outcome, EndsWith}
+use Rattle.machine.proofs.runs.Run.{guestCall, host, atPair, picks, does, grants, loads, outcome, EndsWith}
 
 -- the host makes the journal
 pub made : EndsWith

@@ -15,13 +15,13 @@ use Rattle.machine.specs.Property.{prototypeFor, fresh}
 use Rattle.machine.specs.Seen.{Finds, own, inherited, lacking}
 use Rattle.machine.specs.Laws.{GrantsToGuest, GrantsFromGuest, Copies, Loads, LoadsOnPrimitive, Stores}
 use Rattle.machine.specs.Effect.{Gives, gives-found, gives-primitive, Stored}
-use Rattle.machine.proofs.Grown.{grown-object}
-use Rattle.machine.proofs.Outward.{begins-there, value-found}
-use Rattle.machine.proofs.Reading.{before, can-read}
-use Rattle.machine.proofs.Writing.{writable-stays, stored-elsewhere}
-use Rattle.machine.proofs.Sparing.{spares-object, puts, put-since}
-use Rattle.machine.proofs.Making.{can-take}
-use Rattle.machine.proofs.Acting.{fields, pair, granting, acts, is-member}
+use Rattle.machine.proofs.laws.Grown.{grown-object}
+use Rattle.machine.proofs.laws.Outward.{begins-there, value-found}
+use Rattle.machine.proofs.laws.Reading.{before, can-read}
+use Rattle.machine.proofs.laws.Writing.{writable-stays, stored-elsewhere}
+use Rattle.machine.proofs.laws.Sparing.{spares-object, puts, put-since}
+use Rattle.machine.proofs.laws.Making.{can-take}
+use Rattle.machine.proofs.laws.Acting.{fields, pair, granting, acts, is-member}
 
 -- ---- from a fresh object
 

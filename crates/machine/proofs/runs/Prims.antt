@@ -2,7 +2,7 @@
 use mathlib.Core.Path.{refl}
 use mathlib.Core.List.{[], _∷_, _++_}
 use Rattle.program.proofs.File.{plain, functionLabel, takes, function, variable, local, grant, property, held, store, return, throw, catch, prim, journal}
-use Rattle.machine.proofs.Run.{guestMakeFunction, guestCall, host, atPair, does, hands, grants, lends, outcome, EndsWith}
+use Rattle.machine.proofs.runs.Run.{guestMakeFunction, guestCall, host, atPair, does, hands, grants, lends, outcome, EndsWith}
 
 -- prim on the journal calls the guest's toString, whose this it is; the arguments are primitives
 pub guest-to-string : EndsWith

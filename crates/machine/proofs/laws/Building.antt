@@ -17,13 +17,13 @@ use Rattle.machine.specs.Grown.{Grown}
 use Rattle.machine.specs.Seen.{reads-nothing, variable-none, Gets}
 use Rattle.machine.specs.Laws.{News}
 use Rattle.machine.specs.Effect.{Spares, Takes, takes-found, finds-primitive, finds-nothing, entering, Called, Built}
-use Rattle.machine.proofs.Grown.{grown-refl, grown-trans, grown-object, grown-write, grown-enter}
-use Rattle.machine.proofs.Outward.{begins-there, value-found}
-use Rattle.machine.proofs.Writing.{writable-stays, written, write-spares}
-use Rattle.machine.proofs.Sparing.{spares-both, spares-object, spares-write}
-use Rattle.machine.proofs.Making.{made-last, made-stays}
-use Rattle.machine.proofs.Acting.{pair, acts, can-read-call}
-use Rattle.machine.proofs.Calling.{entered, entered-spares}
+use Rattle.machine.proofs.laws.Grown.{grown-refl, grown-trans, grown-object, grown-write, grown-enter}
+use Rattle.machine.proofs.laws.Outward.{begins-there, value-found}
+use Rattle.machine.proofs.laws.Writing.{writable-stays, written, write-spares}
+use Rattle.machine.proofs.laws.Sparing.{spares-both, spares-object, spares-write}
+use Rattle.machine.proofs.laws.Making.{made-last, made-stays}
+use Rattle.machine.proofs.laws.Acting.{pair, acts, can-read-call}
+use Rattle.machine.proofs.laws.Calling.{entered, entered-spares}
 
 takes : {r : Option Value} {q : ℕ} → Takes r q → prototypeFound r ≡ object q
 takes (takes-found q) = refl

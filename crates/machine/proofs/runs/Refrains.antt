@@ -2,7 +2,7 @@
 use mathlib.Core.Path.{refl}
 use mathlib.Core.List.{[], _∷_, _++_}
 use Rattle.program.proofs.File.{name, plain, functionLabel, builtInPlain, takes, function, variable, local, named, grant, property, held, copy, load, store, call, new, return, throw, catch, prim, forbidden, journal}
-use Rattle.machine.proofs.Run.{guestMakeFunction, guestCall, guestReturn, guestThrow, guestCatch, host, atPair, does, hands, grants, lends, loads, outcome, EndsWith}
+use Rattle.machine.proofs.runs.Run.{guestMakeFunction, guestCall, guestReturn, guestThrow, guestCatch, host, atPair, does, hands, grants, lends, loads, outcome, EndsWith}
 
 -- ---- variables
 

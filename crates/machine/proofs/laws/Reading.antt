@@ -14,7 +14,7 @@ use Rattle.program.specs.Program.{Program, Guest}
 use Rattle.machine.specs.State.{Value, primitive, State}
 use Rattle.machine.specs.Variable.{bag, named, local, isBag, placeOf, read, readAll}
 use Rattle.machine.specs.Seen.{Bag, NoBag, Named, Local, Holds, in-bag, in-global, in-frame, Nothing, variable-none, bag-empty, no-pair, no-frame, Reads, reads-held, reads-nothing, ReadsAll, reads-none, reads-more}
-use Rattle.machine.proofs.Outward.{nearest-found}
+use Rattle.machine.proofs.laws.Outward.{nearest-found}
 
 -- ---- the place of a variable of each sort
 

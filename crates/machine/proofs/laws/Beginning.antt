@@ -14,9 +14,9 @@ use Rattle.machine.specs.Grown.{Grown}
 use Rattle.machine.specs.Effect.{In}
 use Rattle.machine.specs.Laws.{TopFrame, GuestFrames, StartObjects, FirstObjects}
 use Rattle.machine.specs.Begun.{Begins, beforehand, owns, is-owned, is-held, StandsFor}
-use Rattle.machine.proofs.Grown.{grown-refl, grown-trans, grown-value, grown-write}
-use Rattle.machine.proofs.Making.{by-type}
-use Rattle.machine.proofs.Labels.{Listed, property-listed, held-listed, fillings-begin, fillings-listed, place-of, length-start, object-is}
+use Rattle.machine.proofs.laws.Grown.{grown-refl, grown-trans, grown-value, grown-write}
+use Rattle.machine.proofs.laws.Making.{by-type}
+use Rattle.machine.proofs.laws.Labels.{Listed, property-listed, held-listed, fillings-begin, fillings-listed, place-of, length-start, object-is}
 
 -- ---- filling takes nothing back
 

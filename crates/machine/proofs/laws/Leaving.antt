@@ -16,10 +16,10 @@ use Rattle.machine.specs.Call.{returnTo, throwIn}
 use Rattle.machine.specs.Step.{hand}
 use Rattle.machine.specs.Laws.{FramesStay, Hands, Throws, Catches, Returns, ReturnsObject}
 use Rattle.machine.specs.Effect.{Thrown}
-use Rattle.machine.proofs.Grown.{step-grown}
-use Rattle.machine.proofs.Reading.{place-of, can-read}
-use Rattle.machine.proofs.Sparing.{spares-throw, puts}
-use Rattle.machine.proofs.Acting.{fields, throwing, acts}
+use Rattle.machine.proofs.laws.Grown.{step-grown}
+use Rattle.machine.proofs.laws.Reading.{place-of, can-read}
+use Rattle.machine.proofs.laws.Sparing.{spares-throw, puts}
+use Rattle.machine.proofs.laws.Acting.{fields, throwing, acts}
 
 pub frame-stays : (p : Program) (s : State) → FramesStay p s
 frame-stays p s m f k here =

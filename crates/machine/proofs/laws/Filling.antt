@@ -20,10 +20,10 @@ use Rattle.machine.specs.Grown.{Grown}
 use Rattle.machine.specs.Seen.{Bag, Named, Holds, in-bag, in-global, in-frame, Writable, Apart}
 use Rattle.machine.specs.Laws.{StartVariables, StartProperties}
 use Rattle.machine.specs.Begun.{StandsFor, LastOf, Numbered, no-record, one-more, another}
-use Rattle.machine.proofs.Grown.{grown-refl, grown-trans, grown-value}
-use Rattle.machine.proofs.Writing.{SameNumber, write-number, writable-was, nearest-stays, stored-elsewhere, pair-stays, write-spares, written}
-use Rattle.machine.proofs.Labels.{Fills, property-fills, held-fills, nothing-fills, fills, Listed, property-listed, held-listed, fillings-begin, place-of, length-start}
-use Rattle.machine.proofs.Beginning.{grown-one, grown-fill, host-listed, stands-for}
+use Rattle.machine.proofs.laws.Grown.{grown-refl, grown-trans, grown-value}
+use Rattle.machine.proofs.laws.Writing.{SameNumber, write-number, writable-was, nearest-stays, stored-elsewhere, pair-stays, write-spares, written}
+use Rattle.machine.proofs.laws.Labels.{Fills, property-fills, held-fills, nothing-fills, fills, Listed, property-listed, held-listed, fillings-begin, place-of, length-start}
+use Rattle.machine.proofs.laws.Beginning.{grown-one, grown-fill, host-listed, stands-for}
 
 -- ---- up to a record
 

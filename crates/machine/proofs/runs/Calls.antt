@@ -2,7 +2,7 @@
 use mathlib.Core.Path.{refl}
 use mathlib.Core.List.{[], _∷_, _++_}
 use Rattle.program.proofs.File.{plain, functionLabel, builtInFunction, takes, function, variable, local, grant, held, store, call, return, forbidden, journal}
-use Rattle.machine.proofs.Run.{guestMakeFunction, guestCall, host, atPair, picks, does, grants, lends, loads, outcome, EndsWith}
+use Rattle.machine.proofs.runs.Run.{guestMakeFunction, guestCall, host, atPair, picks, does, grants, lends, loads, outcome, EndsWith}
 
 -- listed file 8: the guest calls 6, whose return reads variable 2 in the top frame
 pub host-return : EndsWith

@@ -10,11 +10,11 @@ use Rattle.machine.specs.Step.{Move, step, run}
 use Rattle.machine.specs.Start.{topFrame, start}
 use Rattle.machine.specs.Seen.{Bag, Holds, in-bag, in-global, in-frame, reads-held, Writable, to-bag}
 use Rattle.machine.specs.Begun.{LastOf}
-use Rattle.machine.proofs.Grown.{step-grown}
-use Rattle.machine.proofs.Said.{host-says}
-use Rattle.machine.proofs.Moving.{grant-to-guest}
-use Rattle.machine.proofs.Beginning.{start-top}
-use Rattle.machine.proofs.Filling.{start-held}
+use Rattle.machine.proofs.laws.Grown.{step-grown}
+use Rattle.machine.proofs.laws.Said.{host-says}
+use Rattle.machine.proofs.laws.Moving.{grant-to-guest}
+use Rattle.machine.proofs.laws.Beginning.{start-top}
+use Rattle.machine.proofs.laws.Filling.{start-held}
 
 -- what a bag holds was put there
 in-the-bag : {p : Program} {s : State} {f v : ℕ} {x : Value} → Bag p v → Holds p s f v x → List·Memᴰ x (s .bags v)

@@ -2,7 +2,7 @@
 use mathlib.Core.Path.{refl}
 use mathlib.Core.List.{[], _∷_, _++_}
 use Rattle.program.proofs.File.{plain, function, variable, local, grant, held, call, return, throw, catch, journal}
-use Rattle.machine.proofs.Run.{guestMakeFunction, guestCall, guestThrow, guestCatch, host, picks, does, catches, hands, grants, lends, outcome, EndsWith}
+use Rattle.machine.proofs.runs.Run.{guestMakeFunction, guestCall, guestThrow, guestCatch, host, picks, does, catches, hands, grants, lends, outcome, EndsWith}
 
 -- 6 throws the journal, which is handed on and caught by the guest
 pub caught : EndsWith

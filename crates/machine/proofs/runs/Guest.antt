@@ -2,7 +2,7 @@
 use mathlib.Core.Path.{refl}
 use mathlib.Core.List.{[], _∷_, _++_}
 use Rattle.program.proofs.File.{plain, function, variable, named, grant, property, held, make, call, return, forbidden, journal}
-use Rattle.machine.proofs.Run.{guestMakeFunction, guestStore, guestCall, guestReturn, host, atPair, picks, does, grants, lends, withPrototype, makes, loads, loadsFromPrimitive, outcome, EndsWith}
+use Rattle.machine.proofs.runs.Run.{guestMakeFunction, guestStore, guestCall, guestReturn, host, atPair, picks, does, grants, lends, withPrototype, makes, loads, loadsFromPrimitive, outcome, EndsWith}
 
 -- listed file 5: a grant puts the journal in the bag
 pub grant-to-guest : EndsWith

@@ -17,9 +17,9 @@ use Rattle.machine.specs.Variable.{Place, nowhere, bag, named, local, pl
 use Rattle.machine.specs.Grown.{Grown}
 use Rattle.machine.specs.Seen as seen
 use Rattle.machine.specs.Seen.{Nearest, itself, outward, Bag, Named, Holds, in-bag, in-global, in-frame, Writable, to-bag, to-global, to-frame, Apart, Lasts, Gets, gets-it, gets-later}
-use Rattle.machine.proofs.Grown.{grown-write}
-use Rattle.machine.proofs.Outward.{nearest-found}
-use Rattle.machine.proofs.Reading.{bag-place, named-place, local-place, Sort, is-none, is-a-bag, is-named, is-local, sort-of}
+use Rattle.machine.proofs.laws.Grown.{grown-write}
+use Rattle.machine.proofs.laws.Outward.{nearest-found}
+use Rattle.machine.proofs.laws.Reading.{bag-place, named-place, local-place, Sort, is-none, is-a-bag, is-named, is-local, sort-of}
 
 -- ---- the nearest frame
 

@@ -14,7 +14,7 @@ use Rattle.machine.specs.Variable.{read, readAll}
 use Rattle.machine.specs.Step.{Choice, act, scopeOf, member, perform, statementAt}
 use Rattle.machine.specs.Seen.{Reads, ReadsAll}
 use Rattle.machine.specs.Effect.{Says, In, Can}
-use Rattle.machine.proofs.Reading.{place-of, before, read-later, can-read, can-read-all}
+use Rattle.machine.proofs.laws.Reading.{place-of, before, read-later, can-read, can-read-all}
 
 -- ---- choices
 

@@ -2,7 +2,7 @@
 use mathlib.Core.Path.{refl}
 use mathlib.Core.List.{[], _∷_, _++_}
 use Rattle.program.proofs.File.{plain, array, function, variable, named, grant, property, held, store, return, forbidden, journal}
-use Rattle.machine.proofs.Run.{guestMakeFunction, guestCatch, host, atPair, does, hands, grants, loads, outcome, EndsWith}
+use Rattle.machine.proofs.runs.Run.{guestMakeFunction, guestCatch, host, atPair, does, hands, grants, loads, outcome, EndsWith}
 
 -- the empty run: the guest holds nothing
 pub empty-run : EndsWith (journal ++ (grant 2 ∷ [])) [] []
