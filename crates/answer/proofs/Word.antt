@@ -5,7 +5,7 @@ use Prim.Native.Nat.{ℕ, zero, suc, _%_, _^_, _<_}
 use native.Mathlib.Omega.{arith}
 use lib.Dec.{eqb}
 use borrow.Author.Tests.{eq-eqb, ne-eqb}
-use Rattle.answer.specs.Outcome.{Outcome, confined, leaks, refused, accepted, numberOf, positionOf, labelOf, countOf, kindOf, packed, Ranged, numberIn, positionIn, kindIn, labelIn, countIn}
+use Rattle.answer.specs.Outcome.{Outcome, confined, leaks, refused, accepted, numberOf, positionOf, labelOf, countOf, kindOf, packed, Ranged, numberIn, positionIn, kindIn, labelIn, countIn, ReadBack}
 
 pub number-read : (o : Outcome) → Ranged o → numberIn (packed o) ≡ numberOf o
 number-read (confined c) r = omega arith
@@ -44,7 +44,12 @@ count-read (leaks l c) r = whole (packed (leaks l c)) _ _ _ (number-read (leaks 
 count-read (refused n at) r = turned (packed (refused n at)) _ _ _ (λ z. omega arith) refl
 count-read (accepted c) r = whole (packed (accepted c)) _ _ _ (number-read (accepted c) r) (omega arith)
 
--- an outcome is what its parts say
+pub read-back : (o : Outcome) → Ranged o → ReadBack o
+read-back o r = record { kind = kind-read o r; number = number-read o r; position = position-read o r; label = label-read o r; count = count-read o r }
+
+-- ---- the whole outcome
+
+-- it is what its parts say
 unfoldable pub assembled : ℕ → ℕ → ℕ → ℕ → ℕ → Outcome
 assembled zero n at l c = confined c
 assembled (suc zero) n at l c = leaks l c

@@ -1,5 +1,6 @@
 -- The outcomes of the operations, the word in which an outcome is handed over, and how each part is read back from it.
 -- Assumes nothing.
+use mathlib.Core.Path.{_≡_}
 use mathlib.Core.Bool.{cond}
 use Prim.Native.Nat.{ℕ, _+_, _*_, _/_, _%_, _^_, _<_, _≤_}
 use lib.Dec.{eqb}
@@ -79,3 +80,11 @@ labelIn w = cond (eqb (numberIn w) 0) (w / 2 ^ 8 % 2 ^ 9) 0
 
 abbrev pub countIn : ℕ → ℕ
 countIn w = cond (eqb (numberIn w) 0) (w / 2 ^ 32 % 2 ^ 22) 0
+
+-- every part of the outcome is read back from its word
+pub record ReadBack (o : Outcome) : Type 0 where
+  pub kind : kindIn (packed o) ≡ kindOf o
+  pub number : numberIn (packed o) ≡ numberOf o
+  pub position : positionIn (packed o) ≡ positionOf o
+  pub label : labelIn (packed o) ≡ labelOf o
+  pub count : countIn (packed o) ≡ countOf o

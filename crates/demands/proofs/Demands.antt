@@ -12,7 +12,7 @@ use Rattle.rows.specs.Row.{rowCount}
 use Rattle.rules.specs.Table.{Table, Has, facts}
 use Rattle.rules.proofs.Beyond.{facts-append}
 use Rattle.format.specs.Reading.{Readable, readFile}
-use Rattle.format.proofs.File.{readable-iff}
+use Rattle.format.proofs.Missing.{readable-iff, concatenation-read}
 use Rattle.program.specs.Program.{Guest, programOf}
 use Rattle.analysis.specs.Verdict.{leastTable}
 use Rattle.analysis.proofs.Proper.{readable-proper}
@@ -20,11 +20,11 @@ use Rattle.analysis.proofs.Least.{table-length, table-derives}
 use Rattle.answer.specs.Outcome.{confined, leaks, countOf}
 use Rattle.verdicts.specs.Verdict.{judged, verdictTable, programIn, forbiddenHeld}
 use Rattle.verdicts.specs.Check.{cleaned}
-use Rattle.verdicts.proofs.Cleaned.{has-cleaned}
+use Rattle.verdicts.proofs.Cleaned.{cleaned-has, has-cleaned}
 use Rattle.verdicts.proofs.Judged.{none-forbidden}
 use Rattle.verdicts.proofs.Lists.{verdict-answers, verdict-refuses, refused-exactly, check-answers, check-refuses, check-accepts, accepted-closed}
 use Rattle.verdicts.proofs.Left.{refused-unchanged, row-left, beyond-left, length-left, lowest-label}
-use Rattle.verdicts.proofs.Ranged.{verdict-word, check-word}
+use Rattle.verdicts.proofs.Ranged.{verdict-read-back, check-read-back}
 use Rattle.verdicts.proofs.Demand.{verdict-judged, table-left, leaks-iff, confined-iff, confined-accepts}
 use Rattle.soundness.specs.Confined as machine
 use Rattle.soundness.proofs.Safe.{safe}
@@ -35,16 +35,18 @@ use Rattle.demands.specs.Demands.{Demand1, Demand2, Demand3, Demands}
 demand-1-holds : (L : ℕ) → 5 ≤ L → (xs : List ℕ) → Demand1 L xs
 demand-1-holds L five xs =
     record {
-      verdict-answers = verdict-answers L xs;
+      verdict-answers = verdict-answers L five xs;
       lowest-label = lowest-label L five xs;
-      verdict-refuses = verdict-refuses L xs;
-      check-answers = check-answers L xs five;
-      check-refuses = check-refuses L xs five;
-      refused-exactly = refused-exactly L xs;
-      readable-exactly = readable-iff L xs;
-      refusal-leaves = refused-unchanged L xs;
-      verdict-told = λ small words words' ys. verdict-word L small words words' xs ys;
-      check-told = λ small t u ys. check-word L small xs ys t u;
+      verdict-refuses = verdict-refuses L five xs;
+      check-answers = check-answers L five xs;
+      check-refuses = check-refuses L five xs;
+      refused-exactly = refused-exactly L five xs;
+      readable-exactly = readable-iff L five xs;
+      records-read = λ c. concatenation-read L five xs c .0;
+      sheet-read = λ c. concatenation-read L five xs c .1;
+      refusal-leaves = refused-unchanged L five xs;
+      verdict-word = λ small. verdict-read-back L small xs;
+      check-word = λ small. check-read-back L small xs;
     }
 
 -- ---- demand 2
@@ -98,9 +100,10 @@ demand-3-holds : (L : ℕ) → 5 ≤ L → (xs : List ℕ) → Demand3 L xs
 demand-3-holds L five xs =
     record {
       accepted-safe = λ t a.
-          let c = accepted-closed L xs five t a in
+          let c = accepted-closed L five xs t a in
           safe L xs five (c .readable) (cleaned L (programIn L xs .sheet) t) (c .closed) (clean-none L xs t (c .clear));
-      accepts-exactly = check-accepts L xs five;
+      accepts-exactly = check-accepts L five xs;
+      absent = λ t r l. (has-cleaned L (programIn L xs .sheet) t r l, cleaned-has L (programIn L xs .sheet) t r l);
       leaks-exactly = λ ok. leaks-iff L xs five ok;
       confined-exactly = λ ok. confined-iff L xs five ok;
       confined-left = λ ok. confined-accepts L xs five ok;

@@ -9,11 +9,12 @@ use lib.ListN.{length, drop}
 use Rattle.rows.specs.Row.{rowCount}
 use Rattle.rules.specs.Table.{Table, Has, Small, emptyTable, facts}
 use Rattle.rules.specs.Told.{Derives}
-use Rattle.format.specs.Reading.{Readable, Concatenation}
+use Rattle.format.specs.Sheet.{start}
+use Rattle.format.specs.Reading.{readFile, Readable, sheetAfter, positioned, Concatenation}
 use Rattle.analysis.specs.Rules.{rules}
-use Rattle.answer.specs.Outcome.{leaks, refused, countOf, packed}
+use Rattle.answer.specs.Outcome.{leaks, refused, countOf, ReadBack}
 use Rattle.verdicts.specs.Verdict.{verdictOutcome, verdictTable, programIn, Leaks, Confined, Refused}
-use Rattle.verdicts.specs.Check.{checkOutcome, Accepts}
+use Rattle.verdicts.specs.Check.{cleaned, Counts, checkOutcome, Accepts}
 use Rattle.verdicts.specs.Lists.{VerdictRefuses, CheckRefuses, LowestForbidden, Acceptable}
 use Rattle.soundness.specs.Confined as machine
 
@@ -33,13 +34,14 @@ pub record Demand1 (L : ℕ) (xs : List ℕ) : Type 0 where
   -- "A file is refused only where it breaks the layout, or where file or table has a wrong size.": there, and nowhere else
   pub refused-exactly : (words : ℕ) → Refused 9 (verdictOutcome L words xs) ↔ ((words < rowCount L) ⊎ (Concatenation L xs → ⊥))
   pub readable-exactly : Readable L xs ↔ Concatenation L xs
+  -- what rules and machine are given of a readable file are its records, each with its position, and the sheet that they make
+  pub records-read : (c : Concatenation L xs) → readFile L xs .records ≡ positioned 0 (c .records)
+  pub sheet-read : (c : Concatenation L xs) → readFile L xs .sheet ≡ sheetAfter (start L) (c .records)
   -- "A refusal leaves the lent table unaltered"
   pub refusal-leaves : (t : Table) (n at : ℕ) → verdictOutcome L (length t) xs ≡ refused n at → verdictTable L xs t ≡ t
-  -- the word that is handed over tells the answer
-  pub verdict-told : L ≤ 256 → (words words' : ℕ) (ys : List ℕ) → packed (verdictOutcome L words xs) ≡ packed (verdictOutcome L words' ys)
-      → verdictOutcome L words xs ≡ verdictOutcome L words' ys
-  pub check-told : L ≤ 256 → (t u : Table) (ys : List ℕ) → packed (checkOutcome L xs t) ≡ packed (checkOutcome L ys u)
-      → checkOutcome L xs t ≡ checkOutcome L ys u
+  -- each part is read back from the word that is handed over; document 01: "label, count and position are 0 in any outcome that is not said to have them"
+  pub verdict-word : L ≤ 256 → (words : ℕ) → ReadBack (verdictOutcome L words xs)
+  pub check-word : L ≤ 256 → (t : Table) → ReadBack (checkOutcome L xs t)
 
 -- Demand 2, of a readable file and a lent table of full size.
 pub record Demand2 (L : ℕ) (xs : List ℕ) (t : Table) : Type 0 where
@@ -58,10 +60,12 @@ pub record Demand3 (L : ℕ) (xs : List ℕ) : Type 0 where
   pub accepted-safe : (t : Table) → Accepts L xs t → machine.Confined (programIn L xs)
   -- ".. as it does exactly where its list in document 01 has no refusal."
   pub accepts-exactly : (t : Table) → Accepts L xs t ↔ Acceptable L xs t
+  -- document 01: "In using the rules, row 0 and bits of undeclared labels count as absent."
+  pub absent : (t : Table) (r l : ℕ) → Has (cleaned L (programIn L xs .sheet) t) r l ↔ Counts L (programIn L xs .sheet) t r l
   -- "A readable file, with a table of full size lent, gets leaks exactly when there is no table at all that the check accepts for it,"
   pub leaks-exactly : Readable L xs → (words : ℕ) → rowCount L ≤ words
-      → Leaks (verdictOutcome L words xs) ↔ ((t : Table) → Small L t → Accepts L xs t → ⊥)
-  -- "and confined exactly when there is one;"
+      → Leaks (verdictOutcome L words xs) ↔ ((t : Table) → Accepts L xs t → ⊥)
+  -- "and confined exactly when there is one;": one of words for L labels
   pub confined-exactly : Readable L xs → (words : ℕ) → rowCount L ≤ words
       → Confined (verdictOutcome L words xs) ↔ ((t : Table) × Small L t × Accepts L xs t)
   -- "after confined the check accepts for it the lent table as the verdict left it."

@@ -1,7 +1,7 @@
 -- Reading a whole file: it is readable exactly where it is a concatenation of well-formed records that leaves no function undefined; which
 -- refusals there are, and where. Assumes nothing.
 use mathlib.Core.Path.{_≡_, refl, sym, ap, _∙_, subst}
-use mathlib.Core.Logic.{_↔_, _⊎_, inl, inr}
+use mathlib.Core.Logic.{_⊎_, inl, inr}
 use mathlib.Core.List.{List}
 use mathlib.Core.Bool.{Bool, true, false, cond, _&&_}
 use Prim.Native.Nat.{ℕ, _<_, _≤_}
@@ -11,7 +11,8 @@ use lib.ListN.{length}
 use lib.Dec.{eqb}
 use borrow.Author.Tests.{lt-ltb, le-ltb, eqb-true, eqb-false}
 use Rattle.format.specs.Sheet.{start}
-use Rattle.format.specs.Reading.{Reading, stopped, readFrom, lacking, finished, longest, readFile, Readable, Concatenation}
+use Rattle.format.specs.Records.{Record}
+use Rattle.format.specs.Reading.{Reading, stopped, readFrom, lacking, finished, longest, written, sheetAfter, AllWellFormed, readFile, Readable}
 use Rattle.format.proofs.Written.{just, Whole, read-whole, written-read, read-refusal-small, read-position-end, read-position-within}
 
 pub too-long : (L : ℕ) (xs : List ℕ) → longest < length xs → readFile L xs ≡ stopped (start L) 9 0
@@ -72,8 +73,16 @@ readable-read L xs e = go (decLe (length xs) longest)
 pub read-is : (L : ℕ) (xs : List ℕ) (r : Read L xs) → readFile L xs ≡ just (start L) 0 (r .whole .records) 0
 read-is L xs r = r .same ∙ r .whole .read
 
-pub readable-concatenation : (L : ℕ) (xs : List ℕ) → Readable L xs → Concatenation L xs
-readable-concatenation L xs e =
+-- the same with what the sheet lacks: Missing.antt says it in the paper's words
+pub record Complete (L : ℕ) (xs : List ℕ) : Type 0 where
+  pub records : List Record
+  pub bytes : xs ≡ written records
+  pub short : length xs ≤ longest
+  pub well-formed : AllWellFormed L (start L) records
+  pub complete : lacking (sheetAfter (start L) records .types) (sheetAfter (start L) records .defined) ≡ false
+
+pub readable-complete : (L : ℕ) (xs : List ℕ) → Readable L xs → Complete L xs
+readable-complete L xs e =
     let r = readable-read L xs e in
     record {
       records = r .whole .records;
@@ -83,15 +92,13 @@ readable-concatenation L xs e =
       complete = rw (read-is L xs r) at (r .complete);
     }
 
-pub concatenation-readable : (L : ℕ) (xs : List ℕ) → Concatenation L xs → Readable L xs
+-- and what is read of it is these records
+pub complete-read : (L : ℕ) (xs : List ℕ) (c : Complete L xs) → readFile L xs ≡ just (start L) 0 (c .records) 0
 unfolding finished
-concatenation-readable L xs c =
+complete-read L xs c =
     let e : readFrom L (start L) 0 xs ≡ just (start L) 0 (c .records) 0 =
     ap (readFrom L (start L) 0) (c .bytes) ∙ written-read L (start L) 0 (c .records) (c .well-formed) in
-    rw (short-enough L xs (c .short), e, c .complete)
-
-pub readable-iff : (L : ℕ) (xs : List ℕ) → Readable L xs ↔ Concatenation L xs
-readable-iff L xs = (readable-concatenation L xs, concatenation-readable L xs)
+    short-enough L xs (c .short) ∙ rw (e, c .complete)
 
 -- ---- which refusals there are, and where
 

@@ -5,7 +5,6 @@ pub mod Records
 pub mod Reading
 pub mod Written
 pub mod File
-pub mod Refusals
 pub mod Effect
 pub mod Later
 pub mod Arrays
@@ -18,3 +17,6 @@ pub mod Functions
 pub mod Sets
 pub mod Made
 pub mod Readable
+pub mod Missing
+pub mod Refusals
+pub mod Edges

@@ -21,7 +21,7 @@ use Rattle.format.proofs.Ready.{Among, Held, sevenOf, Made, Ready}
 use Rattle.format.proofs.Made.{made-start, made-all}
 
 -- where no label lacks its function, every label of type 2 has one
-none-lacking : (types defined : List ℕ) → length types ≡ length defined → lacking types defined ≡ false → (l : ℕ) → getD types l 0 ≡ 2
+pub none-lacking : (types defined : List ℕ) → length types ≡ length defined → lacking types defined ≡ false → (l : ℕ) → getD types l 0 ≡ 2
     → getD defined l 0 ≡ 0 → ⊥
 unfolding lacking
 none-lacking [] defined n e l t d = omega arith

@@ -16,11 +16,12 @@ use Rattle.format.specs.Sheet.{Sheet, start}
 use Rattle.format.specs.Fields.{good, refusalOf, Fits, firstBad}
 use Rattle.format.specs.Records.{misnamed, twice, wholeRefusal, bodyRefusal}
 use Rattle.format.specs.Reading.{Reading, recordRefusal, readFrom, written, sheetAfter, positioned, finished, longest, readFile}
-use Rattle.format.specs.Refusals.{BadField, BadBody, field, name, again, BadRecord, unknown, short, body, BadFile, too-long, first-bad, undefined}
+use Rattle.format.specs.Refusals.{BadField, BadBody, bad-byte, name-with-owner, declared-twice, BadRecord, unknown-kind, cut-short, bad-body, BadFile, too-long, first-bad, function-missing}
 use Rattle.format.proofs.Fields.{fits-none-bad, none-bad-fits, first-bad-leftmost, refusal-range, refusal-not-zero}
 use Rattle.format.proofs.Written.{just, written-read, refused-read, read-bad, read-whole}
 use Rattle.format.proofs.File.{short-enough, Ending, ending}
 use Rattle.format.proofs.File as file
+use Rattle.format.proofs.Missing.{lacking-missing, missing-lacking}
 
 -- ---- a field
 
@@ -39,10 +40,10 @@ found-bad L s (c ∷ cs) (b ∷ bs) h = go (good L s c b) refl h (found-bad L s 
         record {
           before = c ∷ f .before;
           class = f .class;
-          behind = f .behind;
+          after = f .after;
           good-bytes = b ∷ f .good-bytes;
           byte = f .byte;
-          other-bytes = f .other-bytes;
+          bytes-after = f .bytes-after;
           classes = ap (λ (xs : List Class). c ∷ xs) (f .classes);
           bytes = ap (λ (xs : List ℕ). b ∷ xs) (f .bytes);
           good-before = (e, f .good-before);
@@ -53,10 +54,10 @@ found-bad L s (c ∷ cs) (b ∷ bs) h = go (good L s c b) refl h (found-bad L s 
         record {
           before = [];
           class = c;
-          behind = cs;
+          after = cs;
           good-bytes = [];
           byte = b;
-          other-bytes = bs;
+          bytes-after = bs;
           classes = refl;
           bytes = refl;
           good-before = tt;
@@ -67,20 +68,20 @@ found-bad L s (c ∷ cs) (b ∷ bs) h = go (good L s c b) refl h (found-bad L s 
 bad-found : (L : ℕ) (s : Sheet) (cs : List Class) (bs : List ℕ) (n : ℕ) → BadField L s cs bs n → firstBad L s cs bs ≡ n
 bad-found L s cs bs n f =
     ap (λ (x : List Class). firstBad L s x bs) (f .classes)
-    ∙ ap (firstBad L s (f .before ++ (f .class ∷ f .behind))) (f .bytes)
-    ∙ first-bad-leftmost L s (f .before) (f .good-bytes) (f .class) (f .byte) (f .behind) (f .other-bytes) (f .good-before) (f .bad)
+    ∙ ap (firstBad L s (f .before ++ (f .class ∷ f .after))) (f .bytes)
+    ∙ first-bad-leftmost L s (f .before) (f .good-bytes) (f .class) (f .byte) (f .after) (f .bytes-after) (f .good-before) (f .bad)
     ∙ sym (f .number)
 
 -- ---- a body
 
-bad-body : (L : ℕ) (s : Sheet) (k : ℕ) (bs : List ℕ) (n : ℕ) → BadBody L s k bs n → bodyRefusal L s k bs ≡ n
+body-refused : (L : ℕ) (s : Sheet) (k : ℕ) (bs : List ℕ) (n : ℕ) → BadBody L s k bs n → bodyRefusal L s k bs ≡ n
 unfolding bodyRefusal wholeRefusal
-bad-body L s k bs n (field f) =
+body-refused L s k bs n (bad-byte f) =
     let e = bad-found L s (fieldsOf k) bs n f in
     let z : firstBad L s (fieldsOf k) bs ≡ 0 → ⊥ = λ h. refusal-not-zero (f .class) (sym (f .number) ∙ sym e ∙ h) in
     rw (ne-eqb _ _ z) e
-bad-body L s k bs n (name f m e) = rw (eq-eqb _ _ (fits-none-bad L s (fieldsOf k) bs f), m, e)
-bad-body L s k bs n (again f m w e) = rw (eq-eqb _ _ (fits-none-bad L s (fieldsOf k) bs f), m, w, e)
+body-refused L s k bs n (name-with-owner f m e) = rw (eq-eqb _ _ (fits-none-bad L s (fieldsOf k) bs f), m, e)
+body-refused L s k bs n (declared-twice f m w e) = rw (eq-eqb _ _ (fits-none-bad L s (fieldsOf k) bs f), m, w, e)
 
 body-bad : (L : ℕ) (s : Sheet) (k : ℕ) (bs : List ℕ) → length bs ≡ bodyLength k → (bodyRefusal L s k bs ≡ 0 → ⊥)
     → BadBody L s k bs (bodyRefusal L s k bs)
@@ -91,21 +92,21 @@ body-bad L s k bs long h =
     go : (t : Bool) → eqb (firstBad L s (fieldsOf k) bs) 0 ≡ t → (m : Bool) → misnamed k bs ≡ m → (w : Bool) → twice s k bs ≡ w
         → (cond t (cond m 5 (cond w 6 0)) (firstBad L s (fieldsOf k) bs) ≡ 0 → ⊥)
         → BadBody L s k bs (cond t (cond m 5 (cond w 6 0)) (firstBad L s (fieldsOf k) bs))
-    go false q m qm w qw d = field (found-bad L s (fieldsOf k) bs d)
-    go true q true qm w qw d = name (none-bad-fits L s (fieldsOf k) bs long (eqb-true _ _ q)) qm refl
-    go true q false qm true qw d = again (none-bad-fits L s (fieldsOf k) bs long (eqb-true _ _ q)) qm qw refl
+    go false q m qm w qw d = bad-byte (found-bad L s (fieldsOf k) bs d)
+    go true q true qm w qw d = name-with-owner (none-bad-fits L s (fieldsOf k) bs long (eqb-true _ _ q)) qm refl
+    go true q false qm true qw d = declared-twice (none-bad-fits L s (fieldsOf k) bs long (eqb-true _ _ q)) qm qw refl
     go true q false qm false qw d = absurd (d refl)
 
 -- ---- a record
 
 bad-record : (L : ℕ) (s : Sheet) (k : ℕ) (xs : List ℕ) (n : ℕ) → BadRecord L s k xs n → recordRefusal L s k xs ≡ n
 unfolding recordRefusal
-bad-record L s k xs n (unknown z e) = rw (eq-eqb (bodyLength k) 0 z, e)
-bad-record L s k xs n (short p h e) = rw (ne-eqb (bodyLength k) 0 (λ z. omega arith), lt-ltb _ _ h, e)
-bad-record L s k xs n (body bs ys e p long b) =
+bad-record L s k xs n (unknown-kind z e) = rw (eq-eqb (bodyLength k) 0 z, e)
+bad-record L s k xs n (cut-short p h e) = rw (ne-eqb (bodyLength k) 0 (λ z. omega arith), lt-ltb _ _ h, e)
+bad-record L s k xs n (bad-body bs ys e p long b) =
     let room : bodyLength k ≤ length xs = omega (arith, ap length e, length-append bs ys, long) in
     let whole : take (bodyLength k) xs ≡ bs = ap (take (bodyLength k)) e ∙ take-at bs ys (bodyLength k) long in
-    rw (ne-eqb (bodyLength k) 0 (λ z. omega arith), le-ltb _ _ room, whole) (bad-body L s k bs n b)
+    rw (ne-eqb (bodyLength k) 0 (λ z. omega arith), le-ltb _ _ room, whole) (body-refused L s k bs n b)
 
 record-bad : (L : ℕ) (s : Sheet) (k : ℕ) (xs : List ℕ) → (recordRefusal L s k xs ≡ 0 → ⊥) → BadRecord L s k xs (recordRefusal L s k xs)
 unfolding recordRefusal
@@ -114,24 +115,24 @@ record-bad L s k xs h = go (eqb (bodyLength k) 0) refl (ltb (length xs) (bodyLen
     go : (t : Bool) → eqb (bodyLength k) 0 ≡ t → (u : Bool) → ltb (length xs) (bodyLength k) ≡ u
         → (cond t 1 (cond u 2 (bodyRefusal L s k (take (bodyLength k) xs))) ≡ 0 → ⊥)
         → BadRecord L s k xs (cond t 1 (cond u 2 (bodyRefusal L s k (take (bodyLength k) xs))))
-    go true qt u qu d = unknown (eqb-true _ _ qt) refl
-    go false qt true qu d = short (omega (arith, eqb-false (bodyLength k) 0 qt)) (ltb-true _ _ qu) refl
+    go true qt u qu d = unknown-kind (eqb-true _ _ qt) refl
+    go false qt true qu d = cut-short (omega (arith, eqb-false (bodyLength k) 0 qt)) (ltb-true _ _ qu) refl
     go false qt false qu d =
         let long = length-take-le (bodyLength k) xs (ltb-false _ _ qu) in
-        body (take (bodyLength k) xs) (drop (bodyLength k) xs) (sym (take-append-drop (bodyLength k) xs))
+        bad-body (take (bodyLength k) xs) (drop (bodyLength k) xs) (sym (take-append-drop (bodyLength k) xs))
         (omega (arith, eqb-false (bodyLength k) 0 qt)) long (body-bad L s k (take (bodyLength k) xs) long d)
 
 -- a record is refused with a number from 1 to 6
 record-number : (L : ℕ) (s : Sheet) (k : ℕ) (xs : List ℕ) (n : ℕ) → BadRecord L s k xs n → 1 ≤ n
-record-number L s k xs n (unknown z e) = omega arith
-record-number L s k xs n (short p h e) = omega arith
-record-number L s k xs n (body bs ys e p long (field f)) = omega (arith, f .number, refusal-range (f .class))
-record-number L s k xs n (body bs ys e p long (name f m q)) = omega arith
-record-number L s k xs n (body bs ys e p long (again f m w q)) = omega arith
+record-number L s k xs n (unknown-kind z e) = omega arith
+record-number L s k xs n (cut-short p h e) = omega arith
+record-number L s k xs n (bad-body bs ys e p long (bad-byte f)) = omega (arith, f .number, refusal-range (f .class))
+record-number L s k xs n (bad-body bs ys e p long (name-with-owner f m q)) = omega arith
+record-number L s k xs n (bad-body bs ys e p long (declared-twice f m w q)) = omega arith
 
 -- ---- a file
 
-module _ (L : ℕ) (xs : List ℕ) where
+module _ (L : ℕ) (five : 5 ≤ L) (xs : List ℕ) where
   -- the number and the position with which reading ends
   abbrev Ends : ℕ → ℕ → Type 0
   Ends n at = (readFile L xs .refusal ≡ n) × (readFile L xs .position ≡ at)
@@ -153,10 +154,10 @@ module _ (L : ℕ) (xs : List ℕ) where
       let d = ends _ (bad-ends (just (start L) 0 rs (recordRefusal L (sheetAfter (start L) rs) k ys)) h
       (ap (readFrom L (start L) 0) bytes ∙ refused-read L (start L) 0 rs k ys w z) z) in
       (d .0 ∙ e, omega (arith, d .1))
-  bad-file n at (undefined h rs bytes w l e p) =
+  bad-file n at (function-missing h rs bytes w l m e p) =
       let r : readFrom L (start L) 0 xs ≡ just (start L) 0 rs 0 = ap (readFrom L (start L) 0) bytes ∙ written-read L (start L) 0 rs w in
       let d = ends (record { records = positioned 0 rs; sheet = sheetAfter (start L) rs; refusal = 7; position = 0 + length (written rs) })
-      (short-enough L xs h ∙ rw (r, l)) in
+      (short-enough L xs h ∙ rw (r, missing-lacking L five rs w l m)) in
       (d .0 ∙ sym e, omega (arith, d .1, ap length bytes))
 
   pub file-bad : (readFile L xs .refusal ≡ 0 → ⊥) → BadFile L xs (readFile L xs .refusal) (readFile L xs .position)
@@ -171,7 +172,8 @@ module _ (L : ℕ) (xs : List ℕ) where
           (omega (arith, d .1))
       by-ending h (file.undefined m l seven p) =
           let w = read-whole L (start L) 0 xs m in
-          undefined h (w .records) (w .bytes) (w .well-formed) (rw (w .read) at l) seven p
+          let f = lacking-missing L five (w .records) (w .well-formed) (rw (w .read) at l) in
+          function-missing h (w .records) (w .bytes) (w .well-formed) (f .0) (f .1) seven p
       by-ending h (file.complete m same c) = absurd (z (ap (λ (r : Reading). r .refusal) same ∙ m))
 
       go : Dec (length xs ≤ longest) → BadFile L xs (readFile L xs .refusal) (readFile L xs .position)
@@ -182,7 +184,7 @@ module _ (L : ℕ) (xs : List ℕ) where
   pub bad-file-number : (n at : ℕ) → BadFile L xs n at → 1 ≤ n
   bad-file-number n at (too-long h e p) = omega arith
   bad-file-number n at (first-bad h rs k ys bytes w b p) = record-number L _ k ys n b
-  bad-file-number n at (undefined h rs bytes w l e p) = omega arith
+  bad-file-number n at (function-missing h rs bytes w l m e p) = omega arith
 
   -- the same of every number and position
   pub bad-file-iff : (n at : ℕ) → BadFile L xs n at ↔ ((1 ≤ n) × (readFile L xs .refusal ≡ n) × (readFile L xs .position ≡ at))

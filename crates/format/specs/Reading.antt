@@ -1,14 +1,14 @@
 -- Reading a file: the records with their positions and the sheet they make, or the first refusal with its position (document 01, "What each
 -- operation says no to", without 8, which is about the table). L is the number of labels. Assumes nothing.
-use mathlib.Core.List.{List, [], _∷_, _++_}
+use mathlib.Core.List.{List, [], _∷_, _++_, List·Memᴰ}
 use mathlib.Core.Path.{_≡_}
 use mathlib.Core.Bool.{Bool, false, cond, _&&_, _||_}
 use Prim.Native.Nat.{ℕ, zero, suc, _+_, _≤_}
 use lib.ListN.{length, take, drop}
 use lib.Dec.{eqb, ltb}
 use Rattle.layout.specs.Layout.{bodyLength}
-use Rattle.format.specs.Sheet.{Sheet, start}
-use Rattle.format.specs.Records.{Record, WellFormed, after, bodyRefusal}
+use Rattle.format.specs.Sheet.{Sheet, typeOf, start}
+use Rattle.format.specs.Records.{Record, field, WellFormed, after, bodyRefusal}
 
 pub record Reading : Type 0 where
   pub records : List (ℕ × Record)  -- the records read, each with the position of its kind byte
@@ -31,14 +31,14 @@ recordRefusal L s k xs =
     let r = bodyRefusal L s k (take n xs) in
     cond (eqb n 0) 1 (cond (ltb (length xs) n) 2 r)
 
--- reading the bytes xs, which start at position `at`, after records that made the sheet s; no file of xs's length has more than `fuel` records
+-- reading the bytes xs, which start at position `at`, after records that made the sheet s; no file of xs's length has more than `most` records
 unfoldable pub readOn : ℕ → ℕ → Sheet → ℕ → List ℕ → Reading
 readOn L zero s at xs = stopped s 0 at
-readOn L (suc fuel) s at [] = stopped s 0 at
-readOn L (suc fuel) s at (k ∷ xs) =
+readOn L (suc most) s at [] = stopped s 0 at
+readOn L (suc most) s at (k ∷ xs) =
     let n = bodyLength k in
     let b = take n xs in
-    let rest = preceded at (record { kind = k; body = b }) (readOn L fuel (after s k b) (at + 1 + n) (drop n xs)) in
+    let rest = preceded at (record { kind = k; body = b }) (readOn L most (after s k b) (at + 1 + n) (drop n xs)) in
     let r = recordRefusal L s k xs in
     cond (eqb r 0) rest (stopped s r at)
 
@@ -93,10 +93,16 @@ unfoldable pub positioned : ℕ → List Record → List (ℕ × Record)
 positioned at [] = []
 positioned at (r ∷ rs) = (at, r) ∷ positioned (at + 1 + length (r .body)) rs
 
--- the file is a concatenation of well-formed records, not too long, and no function label is left without its function
+-- "a label of type 2 from 5 up has no function record": none of kind 4 for label l is among the records rs, which made the sheet s
+pub record Missing (s : Sheet) (rs : List Record) (l : ℕ) : Type 0 where
+  pub from-five : 5 ≤ l
+  pub is-function : typeOf s l ≡ 2
+  pub no-record : (r : Record) → List·Memᴰ r rs → r .kind ≡ 4 → field (r .body) 0 ≡ l → ⊥
+
+-- the file is a concatenation of well-formed records, not too long, and no function label is left without its function record
 pub record Concatenation (L : ℕ) (xs : List ℕ) : Type 0 where
   pub records : List Record
   pub bytes : xs ≡ written records
-  pub short : length xs ≤ longest
+  pub not-too-long : length xs ≤ longest
   pub well-formed : AllWellFormed L (start L) records
-  pub complete : lacking (sheetAfter (start L) records .types) (sheetAfter (start L) records .defined) ≡ false
+  pub none-missing : (l : ℕ) → Missing (sheetAfter (start L) records) records l → ⊥

@@ -18,7 +18,7 @@ use Rattle.rules.specs.Table.{Table, Has, Small}
 use Rattle.format.specs.Sheet.{Sheet, declared}
 use Rattle.analysis.proofs.Stated.{Declared}
 use Rattle.analysis.proofs.Held.{on-both}
-use Rattle.verdicts.specs.Check.{declaredWord, masked, cleaned}
+use Rattle.verdicts.specs.Check.{declaredWord, masked, cleaned, Counts}
 
 -- ---- the word of the declared labels
 
@@ -75,22 +75,15 @@ beyond-rows : (L : ℕ) (t : Table) (r : ℕ) → rowCount L ≤ suc r → getD 
 beyond-rows L t r h =
     getD-drop 1 (take (rowCount L) t) r 0 ∙ List·getD-eq-default (take (rowCount L) t) 0 {n = 1 + r} (rw length-take (omega arith))
 
--- a fact that the cleaned table has
-pub record Clean (L : ℕ) (s : Sheet) (t : Table) (r l : ℕ) : Type 0 where
-  pub positive : 0 < r
-  pub row : r < rowCount L
-  pub declared-label : Declared s l
-  pub label : l < L
-  pub given : Has t r l
-
-pub cleaned-has : (L : ℕ) (s : Sheet) (t : Table) (r l : ℕ) → Clean L s t r l → Has (cleaned L s t) r l
+-- the cleaned table has exactly the facts that count
+pub cleaned-has : (L : ℕ) (s : Sheet) (t : Table) (r l : ℕ) → Counts L s t r l → Has (cleaned L s t) r l
 unfolding cleaned
 cleaned-has L s t zero l c = absurd (omega (arith, c .positive))
 cleaned-has L s t (suc r) l c =
     rw (masked-row (declaredWord L s) (drop 1 (take (rowCount L) t)) r, rows-at L t r (c .row))
     (on-both (getD t (suc r) 0) (declaredWord L s) l .1 (c .given, declared-word L s l (c .label) (c .declared-label)))
 
-pub has-cleaned : (L : ℕ) (s : Sheet) (t : Table) (r l : ℕ) → Has (cleaned L s t) r l → Clean L s t r l
+pub has-cleaned : (L : ℕ) (s : Sheet) (t : Table) (r l : ℕ) → Has (cleaned L s t) r l → Counts L s t r l
 unfolding cleaned
 has-cleaned L s t zero l h = absurd (empty-off l h)
 has-cleaned L s t (suc r) l h = go (decLt (suc r) (rowCount L))
@@ -98,7 +91,7 @@ has-cleaned L s t (suc r) l h = go (decLt (suc r) (rowCount L))
     both-on : On (getD (drop 1 (take (rowCount L) t)) r 0) l × On (declaredWord L s) l
     both-on = on-both (getD (drop 1 (take (rowCount L) t)) r 0) (declaredWord L s) l .0 (rw (masked-row (declaredWord L s) (drop 1 (take (rowCount L) t)) r) at h)
 
-    go : Dec (suc r < rowCount L) → Clean L s t (suc r) l
+    go : Dec (suc r < rowCount L) → Counts L s t (suc r) l
     go (yes i) =
         let d = word-declared L s l (both-on .1) in
         record { positive = omega arith; row = i; declared-label = d .1; label = d .0; given = rw (rows-at L t r i) at (both-on .0) }

@@ -44,13 +44,13 @@ module _ (L : ℕ) (xs : List ℕ) (five : 5 ≤ L) (ok : Readable L xs) where
   -- the least table lies within every accepted one, cleaned
   pub least-accepted : (u : Table) → Accepts L xs u
       → Within (leastTable L (programIn L xs)) (cleaned L (programIn L xs .sheet) u)
-  least-accepted u a = table-within L (programIn L xs) _ (accepted-closed L xs five u a .closed)
+  least-accepted u a = table-within L (programIn L xs) _ (accepted-closed L five xs u a .closed)
 
   accepted-clear : (u : Table) → Accepts L xs u → forbiddenHeld (leastTable L (programIn L xs)) (programIn L xs .guests) ≡ 0
   accepted-clear u a =
       let q = programIn L xs in
       none-held L q proper (leastTable L q) u (λ r l d z i h. has-cleaned L (q .sheet) u r l (least-accepted u a r l h) .given)
-      (accepted-closed L xs five u a .clear)
+      (accepted-closed L five xs u a .clear)
 
   -- whoever made it: an accepted table means confined
   pub accepted-confined : (u : Table) → Accepts L xs u → (words : ℕ) → rowCount L ≤ words → Confined (verdictOutcome L words xs)
@@ -90,7 +90,7 @@ module _ (L : ℕ) (xs : List ℕ) (five : 5 ≤ L) (ok : Readable L xs) where
     unfolding left
     clear-accepted e =
         let q = programIn L xs in
-        closed-accepted L xs five left (record {
+        closed-accepted L five xs left (record {
           full = rw length-append (omega (arith, table-length L q proper));
           readable = ok;
           closed = left-closed;
@@ -125,10 +125,10 @@ module _ (L : ℕ) (xs : List ℕ) (five : 5 ≤ L) (ok : Readable L xs) where
       some c = least-itself (confined-clear L (programIn L xs) (c .0, sym (verdict-judged words full) ∙ c .1))
 
   -- "leaks exactly when there is no table at all that the check accepts for it"
-  pub leaks-iff : (words : ℕ) → rowCount L ≤ words → Leaks (verdictOutcome L words xs) ↔ ((u : Table) → Small L u → Accepts L xs u → ⊥)
-  leaks-iff words full = ((λ k u s a. leaks-none words full k u a), λ n. go n (ℕ-discrete (forbiddenHeld (leastTable L (programIn L xs)) (programIn L xs .guests)) 0))
+  pub leaks-iff : (words : ℕ) → rowCount L ≤ words → Leaks (verdictOutcome L words xs) ↔ ((u : Table) → Accepts L xs u → ⊥)
+  leaks-iff words full = (leaks-none words full, λ n. go n (ℕ-discrete (forbiddenHeld (leastTable L (programIn L xs)) (programIn L xs .guests)) 0))
     where
-      go : ((u : Table) → Small L u → Accepts L xs u → ⊥) → Dec (forbiddenHeld (leastTable L (programIn L xs)) (programIn L xs .guests) ≡ 0)
+      go : ((u : Table) → Accepts L xs u → ⊥) → Dec (forbiddenHeld (leastTable L (programIn L xs)) (programIn L xs .guests) ≡ 0)
           → Leaks (verdictOutcome L words xs)
-      go n (yes e) = let a = least-itself e in absurd (n (a .0) (a .1) (a .2))
+      go n (yes e) = let a = least-itself e in absurd (n (a .0) (a .2))
       go n (no d) = (_, _, verdict-judged words full ∙ held-leaks L (programIn L xs) d)

@@ -25,9 +25,9 @@ use Rattle.verdicts.proofs.Lists.{verdict-refuses, listed-refused, not-
 use Rattle.verdicts.proofs.Demand.{verdict-judged, table-left}
 
 -- "No refusal changes any word"
-pub refused-unchanged : (L : ℕ) (xs : List ℕ) (t : Table) (n at : ℕ) → verdictOutcome L (length t) xs ≡ refused n at → verdictTable L xs t ≡ t
+pub refused-unchanged : (L : ℕ) → 5 ≤ L → (xs : List ℕ) (t : Table) (n at : ℕ) → verdictOutcome L (length t) xs ≡ refused n at → verdictTable L xs t ≡ t
 unfolding verdictTable
-refused-unchanged L xs t n at e = listed-refused L xs (length t) (λ n at. t) _ n at (verdict-refuses L xs (length t) n at .0 e)
+refused-unchanged L five xs t n at e = listed-refused L five xs (length t) (λ n at. t) _ n at (verdict-refuses L five xs (length t) n at .0 e)
 
 module _ (L : ℕ) (xs : List ℕ) (five : 5 ≤ L) (ok : Readable L xs) (t : Table) (full : rowCount L ≤ length t) where
   long : length (leastTable L (programIn L xs)) ≡ rowCount L
@@ -58,7 +58,7 @@ lowest-row s t u l e low = record { held = (rw (sym e) (low .held .0), low .held
 pub lowest-label : (L : ℕ) → 5 ≤ L → (xs : List ℕ) (t : Table) (l c : ℕ) → verdictOutcome L (length t) xs ≡ leaks l c
     → LowestForbidden (programIn L xs .sheet) (verdictTable L xs t) l
 unfolding programOf
-lowest-label L five xs t l c e = go (not-refused L xs (length t) (λ n at q. no-refusal n at (sym e ∙ q)))
+lowest-label L five xs t l c e = go (not-refused L five xs (length t) (λ n at q. no-refusal n at (sym e ∙ q)))
   where
     no-refusal : (n at : ℕ) → leaks l c ≡ refused n at → ⊥
     no-refusal n at q = let z : _≡_ {A = ℕ} 0 1 = cc in omega arith

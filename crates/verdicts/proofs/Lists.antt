@@ -18,7 +18,8 @@ use Rattle.rules.specs.Told.{Closed}
 use Rattle.rules.specs.Gap.{gap}
 use Rattle.format.specs.Reading.{readFile, Readable, Concatenation}
 use Rattle.format.proofs.Readable.{readable-ready}
-use Rattle.format.proofs.File.{readable-iff, file-refusal-small}
+use Rattle.format.proofs.File.{file-refusal-small}
+use Rattle.format.proofs.Missing.{readable-iff}
 use Rattle.format.proofs.Refusals.{bad-file-iff}
 use Rattle.program.specs.Program.{programOf}
 use Rattle.analysis.specs.Rules.{rules}
@@ -26,19 +27,19 @@ use Rattle.analysis.proofs.Proper.{Proper, readable-proper}
 use Rattle.analysis.proofs.Naming.{told-in-rows}
 use Rattle.verdicts.specs.Verdict.{admitted, forbiddenHeld, judged, programIn, verdictOutcome, Leaks, Confined, Refused}
 use Rattle.verdicts.specs.Check.{cleaned, Lacks, checked, checkOutcome, Accepts}
-use Rattle.verdicts.specs.Lists.{VerdictRefuses, table-short, file-bad, NoneLacks, ForbiddenHeld, LowestForbidden, CheckRefuses, same, row-lacks, label-held, Acceptable}
+use Rattle.verdicts.specs.Lists.{VerdictRefuses, table-short, file-bad, NoneLacks, ForbiddenHeld, LowestForbidden, CheckRefuses, as-the-verdict, row-lacks, label-held, Acceptable}
 use Rattle.verdicts.proofs.Cleaned.{cleaned-small}
 use Rattle.verdicts.proofs.Accept.{admitted-readable, Admission, short, unread, taken, admission, gap-lacks, gap-first, no-gap, closed-gap}
 use Rattle.verdicts.proofs.Judged.{judged-cases, none-forbidden, forbidden-none, lowest-forbidden, lowest-only}
 
 -- ---- what both operations refuse
 
-module _ (L : ℕ) (xs : List ℕ) (words : ℕ) where
+module _ (L : ℕ) (five : 5 ≤ L) (xs : List ℕ) (words : ℕ) where
   pub listed-refused : {A : Type 0} (refuse : ℕ → ℕ → A) (a : A) (n at : ℕ) → VerdictRefuses L xs words n at
       → admitted L words (readFile L xs) refuse a ≡ refuse n at
   listed-refused refuse a n at (table-short h e p) = rw (lt-ltb words (rowCount L) h, e, p)
   listed-refused refuse a n at (file-bad h b) =
-      let d = bad-file-iff L xs n at .0 b in
+      let d = bad-file-iff L five xs n at .0 b in
       let z : eqb (readFile L xs .refusal) 0 ≡ false = ne-eqb (readFile L xs .refusal) 0 (λ q. omega (arith, d)) in
       rw (le-ltb words (rowCount L) h, z, d .1, d .2)
 
@@ -51,12 +52,12 @@ module _ (L : ℕ) (xs : List ℕ) (words : ℕ) where
     where
       go : {o : Outcome} → Admission L words (readFile L xs) a o → Taken a o
       go (short h e) = inl (8, 0, table-short h refl refl, e)
-      go (unread h d e) = inl (_, _, file-bad h (bad-file-iff L xs _ _ .1 (omega arith, refl, refl)), e)
+      go (unread h d e) = inl (_, _, file-bad h (bad-file-iff L five xs _ _ .1 (omega arith, refl, refl)), e)
       go (taken h ok e) = inr (h, ok, e)
 
   listed-number : (n at : ℕ) → VerdictRefuses L xs words n at → (1 ≤ n) × (n ≤ 9)
   listed-number n at (table-short h e p) = (omega arith, omega arith)
-  listed-number n at (file-bad h b) = let d = bad-file-iff L xs n at .0 b in (d .0, omega (arith, d .1, file-refusal-small L xs))
+  listed-number n at (file-bad h b) = let d = bad-file-iff L five xs n at .0 b in (d .0, omega (arith, d .1, file-refusal-small L xs))
 
   -- two refusals are the same exactly where number and position are
   listed-same : (n at m q : ℕ) → refused m q ≡ refused n at → VerdictRefuses L xs words m q → VerdictRefuses L xs words n at
@@ -119,12 +120,12 @@ module _ (L : ℕ) (xs : List ℕ) (words : ℕ) where
     where
       why : (n at : ℕ) → VerdictRefuses L xs words n at → (words < rowCount L) ⊎ (Concatenation L xs → ⊥)
       why n at (table-short h e p) = inl h
-      why n at (file-bad h b) = inr (λ c. omega (arith, bad-file-iff L xs n at .0 b, readable-iff L xs .1 c))
+      why n at (file-bad h b) = inr (λ c. omega (arith, bad-file-iff L five xs n at .0 b, readable-iff L five xs .1 c))
 
       go : {o : Outcome} → Taken judgment o → (words < rowCount L) ⊎ (Concatenation L xs → ⊥) → Refused 9 o
       go (inl r) h = let d = listed-number (r .0) (r .1) (r .2) in (r .0, r .1, d .0, d .1, r .3)
       go (inr r) (inl h) = absurd (omega (arith, r .0))
-      go (inr r) (inr h) = absurd (h (readable-iff L xs .0 (r .1)))
+      go (inr r) (inr h) = absurd (h (readable-iff L five xs .0 (r .1)))
 
       back : (words < rowCount L) ⊎ (Concatenation L xs → ⊥) → Refused 9 (verdictOutcome L words xs)
       back = go verdict-taken
@@ -138,7 +139,7 @@ pub record ClosedAndClear (L : ℕ) (xs : List ℕ) (t : Table) : Type 0 where
   pub closed : Closed L (cleaned L (programIn L xs .sheet) t) (rules L (programIn L xs))
   pub clear : forbiddenHeld t (programIn L xs .guests) ≡ 0
 
-module _ (L : ℕ) (xs : List ℕ) (five : 5 ≤ L) (t : Table) where
+module _ (L : ℕ) (five : 5 ≤ L) (xs : List ℕ) (t : Table) where
   row : ℕ
   row = gap L (cleaned L (programIn L xs .sheet) t) (rules L (programIn L xs))
 
@@ -208,7 +209,7 @@ module _ (L : ℕ) (xs : List ℕ) (five : 5 ≤ L) (t : Table) where
 
   check-said : (n at : ℕ) → CheckRefuses L xs t n at → checkOutcome L xs t ≡ refused n at
   unfolding checkOutcome
-  check-said n at (same r) = listed-refused L xs (length t) refused (checked L (programIn L xs) t) n at r
+  check-said n at (as-the-verdict r) = listed-refused L five xs (length t) refused (checked L (programIn L xs) t) n at r
   check-said n at (row-lacks full ok lacks first e) =
       let low : row ≤ at = row-first ok at lacks in
       let h : row < rowCount L = omega (arith, lacking-below ok at lacks) in
@@ -233,7 +234,7 @@ module _ (L : ℕ) (xs : List ℕ) (five : 5 ≤ L) (t : Table) where
 
   examined : Examined (checkOutcome L xs t)
   unfolding checkOutcome
-  examined = go (listed L xs (length t) (checked L (programIn L xs) t))
+  examined = go (listed L five xs (length t) (checked L (programIn L xs) t))
     where
       read : {o : Outcome} → rowCount L ≤ length t → Readable L xs → o ≡ checked L (programIn L xs) t → Dec (row < rowCount L) → Dec (held ≡ 0) → Examined o
       read full ok e (yes h) _ =
@@ -245,8 +246,8 @@ module _ (L : ℕ) (xs : List ℕ) (five : 5 ≤ L) (t : Table) where
           let b : rowCount L ≤ row = omega arith in
           inl (11, _, label-held full ok (none-lacks ok b) (label-lowest ok d) refl, omega arith, omega arith, e ∙ says-eleven b d)
 
-      go : {o : Outcome} → Taken L xs (length t) (checked L (programIn L xs) t) o → Examined o
-      go (inl r) = let d = listed-number L xs (length t) (r .0) (r .1) (r .2) in inl (r .0, r .1, same (r .2), d .0, omega (arith, d .1), r .3)
+      go : {o : Outcome} → Taken L five xs (length t) (checked L (programIn L xs) t) o → Examined o
+      go (inl r) = let d = listed-number L five xs (length t) (r .0) (r .1) (r .2) in inl (r .0, r .1, as-the-verdict (r .2), d .0, omega (arith, d .1), r .3)
       go (inr r) = read (r .0) (r .1) (r .2) (decLt row (rowCount L)) (ℕ-discrete held 0)
 
   pub check-refuses : (n at : ℕ) → (checkOutcome L xs t ≡ refused n at) ↔ CheckRefuses L xs t n at

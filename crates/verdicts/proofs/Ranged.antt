@@ -1,4 +1,4 @@
--- Every outcome of verdict and check fits its word, in the small edition and in the large one, so that the word determines it. Assumes nothing.
+-- Every outcome of verdict and check fits its word, in the small edition and in the large one, so that each part is read back from the word. Assumes nothing.
 use mathlib.Core.Path.{_≡_, refl}
 use mathlib.Core.List.{List}
 use mathlib.Core.Bool.{Bool, true, false, cond}
@@ -11,8 +11,8 @@ use lib.Dec.{eqb, ltb}
 use lib.Count.{trailingZeros, trailing-le}
 use borrow.Author.Tests.{eqb-false, ltb-true, lt-ltb}
 use Rattle.rows.specs.Row.{rowCount}
-use Rattle.answer.specs.Outcome.{Outcome, confined, leaks, refused, accepted, packed, Ranged}
-use Rattle.answer.proofs.Word.{packed-injective}
+use Rattle.answer.specs.Outcome.{Outcome, confined, leaks, refused, accepted, Ranged, ReadBack}
+use Rattle.answer.proofs.Word.{read-back}
 use Rattle.rules.specs.Table.{Table, facts}
 use Rattle.rules.specs.Gap.{gap}
 use Rattle.rules.proofs.Table.{facts-room}
@@ -84,10 +84,9 @@ module _ (L : ℕ) (small : L ≤ 256) where
   unfolding checkOutcome
   check-ranged xs t = admitted-ranged L (length t) xs (checked L (programIn L xs) t) (checked-ranged (programIn L xs) t)
 
-  -- equal words, equal outcomes
-  pub verdict-word : (words words' : ℕ) (xs ys : List ℕ) → packed (verdictOutcome L words xs) ≡ packed (verdictOutcome L words' ys)
-      → verdictOutcome L words xs ≡ verdictOutcome L words' ys
-  verdict-word words words' xs ys e = packed-injective _ _ (verdict-ranged words xs) (verdict-ranged words' ys) e
+  -- so every part is read back from the word
+  pub verdict-read-back : (xs : List ℕ) (words : ℕ) → ReadBack (verdictOutcome L words xs)
+  verdict-read-back xs words = read-back (verdictOutcome L words xs) (verdict-ranged words xs)
 
-  pub check-word : (xs ys : List ℕ) (t u : Table) → packed (checkOutcome L xs t) ≡ packed (checkOutcome L ys u) → checkOutcome L xs t ≡ checkOutcome L ys u
-  check-word xs ys t u e = packed-injective _ _ (check-ranged xs t) (check-ranged ys u) e
+  pub check-read-back : (xs : List ℕ) (t : Table) → ReadBack (checkOutcome L xs t)
+  check-read-back xs t = read-back (checkOutcome L xs t) (check-ranged xs t)

@@ -1,8 +1,8 @@
 -- The check of a finished table (document 01, "What each operation says no to"). L is the number of labels. Assumes nothing.
 use mathlib.Core.Path.{_≡_}
 use mathlib.Core.List.{List, [], _∷_}
-use mathlib.Core.Bool.{cond}
-use Prim.Native.Nat.{ℕ, zero, suc, _^_}
+use mathlib.Core.Bool.{true, cond}
+use Prim.Native.Nat.{ℕ, zero, suc, _^_, _<_}
 use lib.ListN.{length, take, drop}
 use lib.Dec.{eqb, ltb}
 use lib.Bits.{bitAnd}
@@ -34,6 +34,14 @@ masked w (x ∷ t) = bitAnd x w ∷ masked w t
 unfoldable pub cleaned : ℕ → Sheet → Table → Table
 unfolding declaredWord masked
 cleaned L s t = 0 ∷ masked (declaredWord L s) (drop 1 (take (rowCount L) t))
+
+-- the same, fact by fact: what counts of a given table
+pub record Counts (L : ℕ) (s : Sheet) (t : Table) (r l : ℕ) : Type 0 where
+  pub positive : 0 < r
+  pub row : r < rowCount L
+  pub declared-label : declared s l ≡ true
+  pub label : l < L
+  pub given : Has t r l
 
 -- "one use of all rules would enlarge" row r: from the cleaned table they tell a label that row r of the given table lacks
 abbrev pub Lacks : ℕ → Program → Table → ℕ → Type 0

@@ -1,5 +1,5 @@
--- The lists of document 01, "What each operation says no to", line by line: said of the file and the table, and not of how an operation goes about
--- it. L is the number of labels. Assumes nothing.
+-- The lists of document 01, "What each operation says no to", line by line, as statements about the file and the table. L is the number of labels.
+-- Assumes nothing.
 use mathlib.Core.Path.{_≡_}
 use mathlib.Core.List.{List}
 use Prim.Native.Nat.{ℕ, _<_, _≤_}
@@ -35,7 +35,7 @@ pub record LowestForbidden (s : Sheet) (t : Table) (l : ℕ) : Type 0 where
 -- the check refuses: "the same with the same numbers, then 10 with the lowest row that one use of all rules would enlarge, then 11 (position: lowest
 -- forbidden label in row 1)"
 pub data CheckRefuses (L : ℕ) (xs : List ℕ) (t : Table) (n at : ℕ) : Type 0 where
-  same : VerdictRefuses L xs (length t) n at → CheckRefuses L xs t n at
+  as-the-verdict : VerdictRefuses L xs (length t) n at → CheckRefuses L xs t n at
   row-lacks : rowCount L ≤ length t → Readable L xs → Lacks L (programIn L xs) t at → ((r : ℕ) → Lacks L (programIn L xs) t r → at ≤ r) → n ≡ 10
       → CheckRefuses L xs t n at
   label-held : rowCount L ≤ length t → Readable L xs → NoneLacks L xs t → LowestForbidden (programIn L xs .sheet) t at → n ≡ 11
