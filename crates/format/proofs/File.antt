@@ -1,7 +1,6 @@
 -- Reading a whole file: it is readable exactly where it is a concatenation of well-formed records that leaves no function undefined; which
 -- refusals there are, and where. Assumes nothing.
 use mathlib.Core.Path.{_≡_, refl, sym, ap, _∙_, subst}
-use mathlib.Core.Logic.{_⊎_, inl, inr}
 use mathlib.Core.List.{List}
 use mathlib.Core.Bool.{Bool, true, false, cond, _&&_}
 use Prim.Native.Nat.{ℕ, _<_, _≤_}
@@ -126,18 +125,3 @@ module _ (L : ℕ) (xs : List ℕ) where
       go (refused n same) = omega (arith, ap (λ (d : Reading). d .position) same, read-position-within L (start L) 0 xs)
       go (undefined z u seven p) = omega arith
       go (complete z same c) = omega (arith, ap (λ (d : Reading). d .position) same, read-position-within L (start L) 0 xs)
-
-  -- a file that is read to its end, be it readable or lack a function, has its length as position
-  pub file-position-end : (readFile L xs .refusal ≡ 0) ⊎ (readFile L xs .refusal ≡ 7) → readFile L xs .position ≡ length xs
-  file-position-end =
-      by-length (λ (d : Reading). (d .refusal ≡ 0) ⊎ (d .refusal ≡ 7) → d .position ≡ length xs)
-      (λ _. elim [ inl e ↦ absurd (omega arith) | inr e ↦ absurd (omega arith) ]) go
-    where
-      small : (n : ℕ) → n ≤ 6 → (n ≡ 0 → ⊥) → (n ≡ 0) ⊎ (n ≡ 7) → ⊥
-      small n h z (inl e) = z e
-      small n h z (inr e) = omega arith
-
-      go : Ending L xs → (readFile L xs .refusal ≡ 0) ⊎ (readFile L xs .refusal ≡ 7) → readFile L xs .position ≡ length xs
-      go (refused n same) e = absurd (small _ (read-refusal-small L (start L) 0 xs) n (rw same at e))
-      go (undefined z u seven p) e = p
-      go (complete z same c) e = omega (arith, ap (λ (d : Reading). d .position) same, read-position-end L (start L) 0 xs z)

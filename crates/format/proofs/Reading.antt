@@ -37,11 +37,6 @@ pub read-end : (L : ℕ) (s : Sheet) (at : ℕ) → readFrom L s at [] ≡ stopp
 unfolding readFrom readOn
 read-end L s at = refl
 
--- the position of a refusal is that of the kind byte of the record refused
-pub refused-position : (L : ℕ) (s : Sheet) (at k : ℕ) (xs : List ℕ) → (recordRefusal L s k xs ≡ 0 → ⊥) → readFrom L s at (k ∷ xs) .position ≡ at
-unfolding readFrom readOn
-refused-position L s at k xs h = rw (ne-eqb _ _ h)
-
 pub read-refused : (L : ℕ) (s : Sheet) (at k : ℕ) (xs : List ℕ) → (recordRefusal L s k xs ≡ 0 → ⊥)
     → readFrom L s at (k ∷ xs) ≡ stopped s (recordRefusal L s k xs) at
 unfolding readFrom readOn

@@ -5,8 +5,7 @@ use mathlib.Core.Logic.{_⊎_, inl, inr}
 use mathlib.Core.List.{List, [], _∷_, _++_, append-nil}
 use Prim.Native.Nat.{ℕ, _+_, _≤_}
 use native.Mathlib.Omega.{arith}
-use lib.ListN.{length, getD, length-append}
-use lib.Seq.{getD-append-seam}
+use lib.ListN.{length, length-append}
 use Rattle.format.specs.Sheet.{Sheet}
 use Rattle.format.specs.Records.{Record}
 use Rattle.format.specs.Reading.{Reading, stopped, recordRefusal, readFrom, written, sheetAfter, AllWellFormed, positioned}
@@ -109,12 +108,6 @@ pub read-position-end : (L : ℕ) (s : Sheet) (at : ℕ) (xs : List ℕ) → rea
 read-position-end L s at xs e =
     let w = read-whole L s at xs e in
     ap (λ (d : Reading). d .position) (w .read) ∙ ap (λ (ys : List ℕ). at + length ys) (sym (w .bytes))
-
--- a refusal has the position of the kind byte of the first bad record
-pub read-position-bad : (L : ℕ) (s : Sheet) (at : ℕ) (xs : List ℕ) (b : FirstBad L s at xs)
-    → (readFrom L s at xs .position ≡ at + length (written (b .records))) × (getD xs (length (written (b .records))) 0 ≡ b .kind)
-read-position-bad L s at xs b =
-    (ap (λ (d : Reading). d .position) (b .read), rw (b .bytes) (getD-append-seam (written (b .records)) (b .kind) (b .after-kind) 0))
 
 pub read-position-within : (L : ℕ) (s : Sheet) (at : ℕ) (xs : List ℕ) → readFrom L s at xs .position ≤ at + length xs
 read-position-within L s at xs = go (whole-or-bad L s at xs)

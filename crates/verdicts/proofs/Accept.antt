@@ -13,19 +13,18 @@ use Rattle.words.proofs.Bits.{On, empty-off}
 use Rattle.words.proofs.Laws.{lowest}
 use Rattle.rows.specs.Row.{rowCount}
 use Rattle.answer.specs.Outcome.{Outcome, refused}
-use Rattle.rules.specs.Table.{Table, Has, Within}
+use Rattle.rules.specs.Table.{Table, Has}
 use Rattle.rules.specs.Told.{Told, Closed}
 use Rattle.rules.specs.Gap.{Enlarges, gap}
 use Rattle.rules.proofs.Gap.{gap-lowest, gap-enlarges, no-gap-closed, closed-no-gap}
 use Rattle.format.specs.Reading.{Reading}
 use Rattle.program.specs.Program.{Program, Guest}
 use Rattle.analysis.specs.Rules.{rules}
-use Rattle.analysis.specs.Verdict.{leastTable, heldForbidden}
+use Rattle.analysis.specs.Verdict.{heldForbidden}
 use Rattle.analysis.proofs.Stated.{Declared}
 use Rattle.analysis.proofs.Proper.{AllProper, Proper}
 use Rattle.analysis.proofs.Fit.{proper-fits}
 use Rattle.analysis.proofs.Naming.{told-declared, told-in-rows}
-use Rattle.analysis.proofs.Least.{table-within}
 use Rattle.analysis.proofs.Held.{held-on, held-below}
 use Rattle.verdicts.specs.Verdict.{admitted, forbiddenHeld}
 use Rattle.verdicts.specs.Check.{cleaned, Lacks}
@@ -99,12 +98,9 @@ module _ (L : ℕ) (p : Program) (o : Proper L p) where
     gap-first r e =
         gap-lowest L (cleaned L (p .sheet) t) (cleaned-small L (p .sheet) t) (rules L p) (proper-fits L p o) r (lacks-enlarges r e)
 
-    -- no 10: the cleaned table is closed, and the least table lies within it
+    -- no 10: the cleaned table is closed
     pub no-gap : rowCount L ≤ gap L (cleaned L (p .sheet) t) (rules L p) → Closed L (cleaned L (p .sheet) t) (rules L p)
     no-gap = no-gap-closed L (cleaned L (p .sheet) t) (cleaned-small L (p .sheet) t) (rules L p) (proper-fits L p o)
-
-    pub no-gap-least : rowCount L ≤ gap L (cleaned L (p .sheet) t) (rules L p) → Within (leastTable L p) (cleaned L (p .sheet) t)
-    no-gap-least h = table-within L p (cleaned L (p .sheet) t) (no-gap h)
 
     pub closed-gap : Closed L (cleaned L (p .sheet) t) (rules L p) → gap L (cleaned L (p .sheet) t) (rules L p) ≡ rowCount L
     closed-gap = closed-no-gap L (cleaned L (p .sheet) t) (cleaned-small L (p .sheet) t) (rules L p) (proper-fits L p o)

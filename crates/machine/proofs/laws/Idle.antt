@@ -41,8 +41,8 @@ module _ (p : Program) (s : State) (c : Choice) where
   pub new-of-no-function : BuildsNothing p s c
   new-of-no-function k y g t l args e h = idle p s c (rw e (no-new p s _ _ _ _ _ _ h))
 
-  pub prim-on-primitive : PrimsNothing p s c
-  prim-on-primitive k v e h = idle p s c (rw (e, h) (either (member (c .name) primNames) s refl))
+  pub prim-of-primitive : PrimsNothing p s c
+  prim-of-primitive k v e h = idle p s c (rw (e, h) (either (member (c .name) primNames) s refl))
 
   pub store-on-primitive-or-built-in : StoresNothing p s c
   store-on-primitive-or-built-in k v key a e h = idle p s c (rw e (either (member (c .name) (namesOf (p .sheet) key)) _ (no-store p s _ _ _ h)))

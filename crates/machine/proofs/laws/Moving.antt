@@ -58,11 +58,11 @@ stores {s} i n j x l =
 
 -- ---- copy and grant
 
-pub grant-to-guest : (p : Program) (s : State) → GrantsToGuest p s
-grant-to-guest p s f v b x here says h w = let c = can-read h in acts says here refl (granting (c .0) true) (λ _. rw (c .1) (puts x w))
+pub grant-copies-to-guest : (p : Program) (s : State) → GrantsToGuest p s
+grant-copies-to-guest p s f v b x here says h w = let c = can-read h in acts says here refl (granting (c .0) true) (λ _. rw (c .1) (puts x w))
 
-pub grant-from-guest : (p : Program) (s : State) → GrantsFromGuest p s
-grant-from-guest p s f v b x here says h w = let c = can-read h in acts says here refl (granting (c .0) false) (λ _. rw (c .1) (puts x w))
+pub grant-copies-from-guest : (p : Program) (s : State) → GrantsFromGuest p s
+grant-copies-from-guest p s f v b x here says h w = let c = can-read h in acts says here refl (granting (c .0) false) (λ _. rw (c .1) (puts x w))
 
 pub copy-copies : (p : Program) (s : State) (f k : ℕ) → Copies p s f k
 copy-copies p s f k here y v x says h w = let c = can-read h in acts says here refl (fields (λ j. c .0)) (λ _. rw (c .1) (puts x w))
@@ -74,8 +74,8 @@ load-loads p s f k here y v key w i n j r x says h m d g a =
     let c = can-read h in
     acts says here refl (pair (λ j. c .0) n j 0) (λ _. rw (is-member n (namesOf (p .sheet) key) m, c .1, value-found d, given g) (puts x a))
 
-pub load-on-primitive : (p : Program) (s : State) (f k : ℕ) → LoadsOnPrimitive p s f k
-load-on-primitive p s f k here y v key w q n j r x says h m t d g a =
+pub load-loads-on-primitive : (p : Program) (s : State) (f k : ℕ) → LoadsOnPrimitive p s f k
+load-loads-on-primitive p s f k here y v key w q n j r x says h m t d g a =
     let c = can-read h in
     let z = can-take t in
     let o = fresh w (prototypeFor p w (z .0)) f in

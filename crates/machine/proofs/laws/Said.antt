@@ -7,9 +7,9 @@ use Rattle.program.specs.Program.{Program, Guest, noRecord, guestStatements, pl
 use Rattle.machine.specs.Laws.{RecordsSay, GuestsSay}
 use Rattle.machine.specs.Effect.{Says}
 
-pub host-says : (p : Program) → RecordsSay p
+pub records-say : (p : Program) → RecordsSay p
 unfolding statements
-host-says p at a m = (at, Memᴰ·append-right (guestsStatements (p .guests)) m)
+records-say p at a m = (at, Memᴰ·append-right (guestsStatements (p .guests)) m)
 
 placed-in : {a : Statement} {l : List Statement} (at : ℕ) → List·Memᴰ a l → List·Memᴰ (at, a) (placed at l)
 placed-in at (List·Memᴰ·head e) = List·Memᴰ·head (ap (λ (z : Statement). (at, z)) e)
@@ -24,9 +24,9 @@ said : {a : Statement} {g : Guest} (p : Program) → List·Memᴰ g (p .guests) 
 unfolding statements
 said p n m = (noRecord, Memᴰ·append-left (p .host) (among-guests n m))
 
-pub guest-says : (p : Program) → GuestsSay p
+pub guests-say : (p : Program) → GuestsSay p
 unfolding guestStatements
-guest-says p g n =
+guests-say p g n =
     record {
       makes-function = said p n (List·Memᴰ·head refl);
       loads = said p n (search (List·Memᴰ·head, List·Memᴰ·tail) depth 9);
