@@ -1,2 +1,3 @@
 -- Laws of row numbers. Assumes nothing.
 pub mod Number
+pub mod Edition

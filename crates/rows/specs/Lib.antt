@@ -1,2 +1,3 @@
 -- Where each set of labels stands in the table. Assumes nothing.
 pub mod Row
+pub mod Edition

@@ -4,7 +4,7 @@ ghost use mathlib.Core.Path.{_≡_};
 ghost use Prim.Native.Nat.{_/_, _^_, _<_};
 ghost use lib.Bits.{bitAnd};
 ghost use lib.Count.{trailingZeros};
-ghost use Rattle.words.specs.Words.{bit, union, difference, countBelow, Next};
+ghost use Rattle.words.specs.Words.{bit, union, difference, countBelow, Next, Taken};
 
 // The set that holds label l alone.
 pub fn single(l: usize) -> u64
@@ -84,4 +84,20 @@ pub fn rest(x: u64) -> u64
     ensures { λ r. ⌜ r ≡ difference x (2 ^ trailingZeros 64 x) ⌝ }
 {
     x & (x - 1)
+}
+
+// The lowest label of a set, and the set without it: a turn of a loop over the labels.
+pub struct Split {
+    pub label: usize,
+    pub rest: u64,
+}
+
+pub fn next(x: u64) -> Split
+    requires { ⌜ 0 < x ⌝ }
+    ensures { λ r. ⌜ Taken 64 x (r .label) (r .rest) ⌝ }
+{
+    Split {
+        label: whole(u64::trailing_zeros(x)),
+        rest: x & (x - 1),
+    }
 }

@@ -1,0 +1,105 @@
+-- Laws of tables in the lent words: what a row is, and what a store changes. Assumes nothing.
+use mathlib.Core.Path.{_≡_, refl, sym, ap, ap₂, _∙_, subst}
+use mathlib.Core.Logic.{_⊎_, inl, inr}
+use mathlib.Core.Bool.{Bool}
+use mathlib.Core.List.{List, [], _∷_}
+use Prim.Native.Nat.{ℕ, zero, suc, _+_, _*_, _^_, _≤_, _<_}
+use native.Mathlib.Decide.{ℕ-discrete, decLt}
+use native.Mathlib.Nat.{zero-add}
+use native.Mathlib.Numerals.{one-add}
+use native.Mathlib.Omega.{arith}
+use lib.ListN.{length, getD, set, length-set}
+use lib.Seq.{ext-getD, getD-set-same, getD-set-other}
+use Rattle.sets.specs.Number.{number}
+use Rattle.rows.specs.Edition.{words}
+use Rattle.sets.proofs.Numbers.{number-same}
+use Rattle.lent.specs.Table.{view, place}
+use Rattle.lent.specs.Stored.{Stored}
+
+pub view-length : (k n o : ℕ) (t : List ℕ) → length (view k n o t) ≡ n
+unfolding view
+view-length k zero o t = refl
+view-length k (suc n) o t = ap suc (view-length k n (o + k) t)
+
+pub view-row : (k n o : ℕ) (t : List ℕ) (r : ℕ) → r < n → getD (view k n o t) r 0 ≡ number k t (o + k * r)
+unfolding view
+view-row k zero o t r h = absurd (omega arith)
+view-row k (suc n) o t zero h = ap (λ (i : ℕ). number k t i) (omega arith)
+view-row k (suc n) o t (suc r) h = view-row k n (o + k) t r (omega arith) ∙ ap (λ (i : ℕ). number k t i) (omega arith)
+
+-- rows do not overlap
+rows-apart : (k q r : ℕ) → q < r → k * q + k ≤ k * r
+rows-apart zero q r h = omega arith
+rows-apart (suc k) q r h = omega (arith, rows-apart k q r h)
+
+-- tables with the same words are the same
+pub view-same : (k n o : ℕ) (t u : List ℕ) → ((i : ℕ) → o ≤ i → i < o + k * n → getD u i 0 ≡ getD t i 0) → view k n o u ≡ view k n o t
+unfolding view
+view-same k zero o t u h = refl
+view-same k (suc n) o t u h =
+    ap₂ _∷_ (number-same k u t o o (λ m q. h (o + m) (omega arith) (omega arith)))
+    (view-same k n (o + k) t u (λ i a b. h i (omega arith) (omega arith)))
+
+-- ---- a store
+
+-- the words vs, stored one by one from place i on
+abbrev pub puts : List ℕ → ℕ → List ℕ → List ℕ
+puts t i [] = t
+puts t i (v ∷ vs) = puts (set t i v) (i + 1) vs
+
+number-tail : (k v : ℕ) (vs : List ℕ) → number k (v ∷ vs) (0 + 1) ≡ number k vs 0
+number-tail k v vs = number-same k (v ∷ vs) vs 1 0 (λ m h. rw (one-add m, zero-add m))
+
+pub stored : (vs t : List ℕ) (i : ℕ) → i + length vs ≤ length t → Stored (length vs) i (number (length vs) vs 0) t (puts t i vs)
+unfolding number
+stored [] t i h = record { same-length = refl; here = refl; apart = λ j a. refl }
+stored (v ∷ vs) t i h =
+    let s = stored vs (set t i v) (i + 1) (rw length-set (omega arith)) in
+    record {
+      same-length = s .same-length ∙ length-set t i v;
+      here =
+          ap₂ (λ (x y : ℕ). x * 2 ^ 64 + y) (s .here ∙ sym (number-tail (length vs) v vs))
+          (s .apart i (inl (omega arith)) ∙ getD-set-same t i v 0 (omega arith));
+      apart = λ j a. s .apart j (later j a) ∙ getD-set-other t i j v 0 (λ e. differ j a e);
+    }
+  where
+    later : (j : ℕ) → (j < i) ⊎ (i + suc (length vs) ≤ j) → (j < i + 1) ⊎ (i + 1 + length vs ≤ j)
+    later j (inl a) = inl (omega arith)
+    later j (inr a) = inr (omega arith)
+
+    differ : (j : ℕ) → (j < i) ⊎ (i + suc (length vs) ≤ j) → j ≡ i → ⊥
+    differ j (inl a) e = omega arith
+    differ j (inr a) e = omega arith
+
+-- another row stays
+pub other-row : {k v : ℕ} {t u : List ℕ} (o r q : ℕ) → (q ≡ r → ⊥) → Stored k (o + k * r) v t u → number k u (o + k * q) ≡ number k t (o + k * q)
+other-row {k} {v} {t} {u} o r q d s = number-same k u t (o + k * q) (o + k * q) (λ m i. s .apart (o + k * q + m) (side m i (decLt q r)))
+  where
+    side : (m : ℕ) → m < k → Dec (q < r) → (o + k * q + m < o + k * r) ⊎ (o + k * r + k ≤ o + k * q + m)
+    side m i (yes l) = inl (omega (arith, rows-apart k q r l))
+    side m i (no l) = inr (omega (arith, rows-apart k r q (omega (arith, d, l))))
+
+pub view-stored : {k v : ℕ} {t u : List ℕ} (n o r : ℕ) → r < n → Stored k (o + k * r) v t u → view k n o u ≡ set (view k n o t) r v
+view-stored {k} {v} {t} {u} n o r h s =
+    ext-getD 0 (view k n o u) (set (view k n o t) r v) (view-length k n o u ∙ sym (length-set (view k n o t) r v ∙ view-length k n o t))
+    (λ q i. row q (subst (λ (x : ℕ). q < x) (view-length k n o u) i) (ℕ-discrete q r))
+  where
+    long : r < length (view k n o t)
+    long = rw (view-length k n o t) h
+
+    row : (q : ℕ) → q < n → Dec (q ≡ r) → getD (view k n o u) q 0 ≡ getD (set (view k n o t) r v) q 0
+    row q i (yes e) = rw e (view-row k n o u r h ∙ s .here ∙ sym (getD-set-same (view k n o t) r v 0 long))
+    row q i (no d) = view-row k n o u q i ∙ other-row o r q d s ∙ sym (view-row k n o t q i) ∙ sym (getD-set-other (view k n o t) r q v 0 d)
+
+pub view-apart : {k i v : ℕ} {t u : List ℕ} (n p : ℕ) → (p + k * n ≤ i) ⊎ (i + k ≤ p) → Stored k i v t u → view k n p u ≡ view k n p t
+view-apart {k} {i} {v} {t} {u} n p a s = view-same k n p t u (λ j l h. s .apart j (side j l h a))
+  where
+    side : (j : ℕ) → p ≤ j → j < p + k * n → (p + k * n ≤ i) ⊎ (i + k ≤ p) → (j < i) ⊎ (i + k ≤ j)
+    side j l h (inl b) = inl (omega arith)
+    side j l h (inr b) = inr (omega arith)
+
+-- ---- the width
+
+-- what a table of the width asks of the lent words, once the width is known
+pub fits : {wide : Bool} (b : Bool) (o r n : ℕ) → wide ≡ b → place wide o r + words wide ≤ n → place b o r + words b ≤ n
+fits b o r n e h = rw e at h
