@@ -9,7 +9,7 @@ use Rattle.analysis.specs.Rules.{ruleOf}
 use Rattle.records.specs.declared.Inputs.{Inputs}
 use Rattle.records.specs.declared.Site.{Site}
 use Rattle.records.specs.declared.Statement.{Statement}
-use Rattle.records.specs.declared.Statement.the-variants.{Nothing, Named, Grant, Property, Held, Copy, Load, Store, Make, MakeFunction, Call, New, Throw, Catch, Prim}
+use Rattle.records.specs.declared.Statement.the-variants.{Nothing, Named, Grant, Property, Held, Copy, Load, Store, Make, MakeFunction, Call, New, Throw, Catch, Convert}
 
 -- the rules of a record, as one rule
 abbrev pub recordRule : Program → ℕ → List ℕ → Rule
@@ -45,7 +45,7 @@ spoken (Call s) = say.call (s .scope .0) (s .result .0) (s .callee .0) (s .input
 spoken (New s l) = say.new (s .scope .0) (s .result .0) (s .callee .0) (s .inputs .this .0) (l .0) (arguments (s .inputs)) ∷ []
 spoken (Throw k x) = say.throw (k .0) (x .0) ∷ []
 spoken (Catch k y) = say.catch (k .0) (y .0) ∷ []
-spoken (Prim k x) = say.prim (k .0) (x .0) ∷ []
+spoken (Convert k x) = say.prim (k .0) (x .0) ∷ []
 
 -- its rules, as one
 abbrev pub ruleBy : Program → Statement → Rule
@@ -67,4 +67,4 @@ InBounds L (Call s) = s .scope .0 < L
 InBounds L (New s l) = (s .scope .0 < L) × (l .0 < L)
 InBounds L (Throw k x) = k .0 < L
 InBounds L (Catch k y) = k .0 < L
-InBounds L (Prim k x) = k .0 < L
+InBounds L (Convert k x) = k .0 < L

@@ -61,7 +61,7 @@ pub enum Statement {
     // 25: k, y
     Catch(Label, Var),
     // 26: k, object
-    Prim(Label, Var),
+    Convert(Label, Var),
 }
 
 // Byte j of a body, 0 where there is none.
@@ -132,7 +132,7 @@ pub fn statement_of(wide: bool, kind: u8, body: &[u8]) -> Statement
         22 => Statement::New(call_site(body, 5), Label(field(body, 4))),
         24 => Statement::Throw(Label(field(body, 0)), Var(field(body, 1))),
         25 => Statement::Catch(Label(field(body, 0)), Var(field(body, 1))),
-        26 => Statement::Prim(Label(field(body, 0)), Var(field(body, 1))),
+        26 => Statement::Convert(Label(field(body, 0)), Var(field(body, 1))),
         _ => Statement::Nothing,
     }
 }
