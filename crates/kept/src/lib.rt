@@ -89,7 +89,14 @@ pub fn ask(keeps: &[u64; 256], wide: bool, pair: usize, s: Set, have: Set) -> As
 }
 
 // The union, once `more` was read of the rest; a large one is kept.
-pub fn answer(keeps: &mut [u64; 256], wide: bool, pair: usize, s: Set, asked: Asked, more: Set) -> Set
+pub fn answer(
+    keeps: &mut [u64; 256],
+    wide: bool,
+    pair: usize,
+    s: Set,
+    asked: Asked,
+    more: Set,
+) -> Set
     requires { ⌜ (asked .fresh ≡ true → pair < pairCount wide) ⌝ }
     ensures { λ r. ⌜ Answers wide pair (value wide s) (value wide (asked .base)) (value wide more) (value wide r) (asked .fresh) (now (keeps .entry)) (now (keeps .exit)) ⌝ }
 {
@@ -188,6 +195,9 @@ pub fn forget(keeps: &mut [u64; 256], wide: bool)
 
 // The pair of each thing that is looked up or spread: see `slotOf`.
 pub const CHAINS: usize = 0;
+
 pub const THROWS: usize = 4;
+
 pub const HANDED: usize = 5;
+
 pub const INPUTS: usize = 17;
