@@ -6,6 +6,7 @@ ghost use Rattle.host.specs.Lays.{functionsIn, builtInsIn, namesIn};
 use sets::Set;
 
 const BUILT_INS: usize = 4;
+
 const CLASSES: usize = 8;
 
 // The labels of functions.

@@ -112,7 +112,11 @@ pub fn statement_of(wide: bool, kind: u8, body: &[u8]) -> Statement
     match kind {
         5 => named(body),
         6 => Statement::Grant(Var(field(body, 0))),
-        7 => Statement::Property(Label(field(body, 0)), Name(field(body, 1)), Label(field(body, 2))),
+        7 => Statement::Property(
+            Label(field(body, 0)),
+            Name(field(body, 1)),
+            Label(field(body, 2)),
+        ),
         8 => Statement::Held(Var(field(body, 0)), Label(field(body, 1))),
         16 => Statement::Copy(Var(field(body, 1)), Var(field(body, 2))),
         17 => Statement::Load(
