@@ -11,6 +11,7 @@ use Rattle.words.specs.Words.{bit}
 use Rattle.rows.specs.Edition.{labels, words}
 use Rattle.rows.specs.Row.{Key}
 use Rattle.format.specs.Sheet.{builtIn}
+use Rattle.rules.specs.Table.{Table, Has}
 use Rattle.program.specs.Program.{Program, namesOf, isFunction, returnsOf}
 use Rattle.sets.specs.Number.{number}
 
@@ -53,3 +54,7 @@ pub record Lays (wide : Bool) (p : Program) (host formals : List ℕ) : Type 0 w
 
 abbrev pub Returning : Bool → Program → Returns → Type 0
 Returning wide p r = (f x : ℕ) → f < labels wide → x < 256 → HandsBack r f x ↔ List·Memᴰ x (returnsOf p f)
+
+-- what function f hands back: the labels of the variables that it returns
+abbrev pub handedBack : Returns → Table → ℕ → ℕ → Type 0
+handedBack r t f m = (x : ℕ) × (x < 256) × HandsBack r f x × Has t x m
