@@ -1,0 +1,16 @@
+-- What a call hands over to the functions that it enters. Assumes nothing.
+use mathlib.Core.Path.{_≡_}
+use mathlib.Core.Bool.{Bool}
+use Prim.Native.Nat.{ℕ, _<_}
+use Rattle.words.specs.Words.{bit}
+use Rattle.rules.specs.Table.{Table, Has}
+use Rattle.program.specs.Program.{Program}
+use Rattle.kept.specs.Promise.{input, Takes}
+
+-- what variable v holds, to the j-th input of the functions fs
+abbrev pub handing : Bool → Program → ℕ → ℕ → ℕ → Table → ℕ → ℕ → Type 0
+handing wide p fs j v t r l = (f : ℕ) × (bit fs f ≡ 1) × Takes wide p (input j) f r × (0 < r) × Has t v l
+
+-- the first n inputs
+abbrev pub handingAll : Bool → Program → ℕ → (ℕ → ℕ) → ℕ → Table → ℕ → ℕ → Type 0
+handingAll wide p fs inputs n t r l = (j : ℕ) × (j < n) × handing wide p fs j (inputs j) t r l
