@@ -37,7 +37,8 @@ pub labels-small : (wide : Bool) → labels wide ≤ 256
 labels-small true = omega arith
 labels-small false = omega arith
 
-pub variable-row : (wide : Bool) {v : ℕ} → v < 256 → v < rowCount (labels wide)
+-- a row of the small edition's table is one of the large one's
+pub variable-row : (wide : Bool) {v : ℕ} → v < rowCount 64 → v < rowCount (labels wide)
 variable-row true h = omega arith
 variable-row false h = omega arith
 

@@ -8,6 +8,9 @@ ghost use Rattle.sets.specs.Value.{value};
 ghost use Rattle.lent.specs.Table.{wordCount};
 ghost use Rattle.uses.specs.Use.{Lent, tableOf, giving, including, Used};
 ghost use Rattle.uses.specs.Gather.{rowFrom, underNames, Gathered, Added};
+
+pub mod spread;
+
 use rows::Label;
 use rows::Name;
 use sets::Set;
