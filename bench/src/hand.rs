@@ -10,7 +10,7 @@ mod spread;
 use pezvoran::{Answer, Refusal};
 use second::program::{Program, BAG};
 use second::reader::read;
-use second::rows::{labels, s, ROWS};
+use second::rows::{s, ROWS};
 use sets::{Names, Variables};
 
 /// Row of the labels on the chains of what variable v holds.
@@ -86,7 +86,7 @@ pub fn verdict(file: &[u8]) -> (Answer, Vec<u64>) {
     let mut table = solver.rows;
     table.truncate(ROWS);
     let facts = table.iter().map(|row| row.count_ones()).sum();
-    let answer = match labels(table[s(BAG)] & program.forbidden).next() {
+    let answer = match program.forbidden.labels().find(|&l| table[s(BAG)] >> l & 1 == 1) {
         Some(l) => Answer::Leaks { label: l, facts },
         None => Answer::Confined { facts },
     };

@@ -10,6 +10,7 @@ mod records;
 use second::program::{Program, Record};
 use second::rows::{bit, h, labels, p, s, ROWS};
 use second::solver::chain_without_members;
+use second::Edition;
 use std::time::{Duration, Instant};
 
 #[derive(Clone, Copy, PartialEq, Eq, Debug, Default)]
@@ -124,7 +125,7 @@ impl Passes<'_> {
     /// The P line and the names of variables.
     fn declared(&mut self) {
         for (l, label) in self.program.declared() {
-            self.add(p(l), chain_without_members(l, label.kind));
+            self.add(p(l), chain_without_members(l, label.kind).words(Edition::Small)[0]);
             self.add(p(l), self.chains_of(self.table[p(l)]));
         }
         for (v, n) in self.program.named() {

@@ -19,7 +19,7 @@ use Rattle.rules.specs.Round.{join}
 use Rattle.rules.proofs.Join.{join-is, join-zero, join-tells}
 use Rattle.lent.specs.Table.{view}
 use Rattle.lent.specs.Stored.{Stored, Joined}
-use Rattle.lent.proofs.Views.{view-length, view-row, view-stored, view-apart}
+use Rattle.lent.proofs.Views.{view-length, view-row, view-stored}
 
 -- ---- what the code does
 
@@ -33,7 +33,7 @@ lacks-some s e t h z = eqb-false _ _ (sym t ∙ h) (ap (λ (x : ℕ). difference
 -- nothing is stored, and a table is as it was joined
 unchanged : (k o r s : ℕ) (t : List ℕ) → ((n : ℕ) → r < n → view k n o t ≡ join r s (view k n o t)) → Joined k o r s t t false
 unchanged k o r s t h =
-    record { same-length = refl; here = h; apart = λ n p a. refl; still = λ e. refl; grown = λ e. (let z : _≡_ {A = ℕ} 0 1 = cc in absurd (omega arith)) }
+    record { same-length = refl; here = h; apart = λ j a. refl; still = λ e. refl; grown = λ e. (let z : _≡_ {A = ℕ} 0 1 = cc in absurd (omega arith)) }
 
 pub joined-nowhere : (k o r s : ℕ) (t : List ℕ) → r ≡ 0 → Joined k o r s t t false
 joined-nowhere k o r s t e = rw e (unchanged k o 0 s t (λ n h. sym (join-zero s (view k n o t))))
@@ -61,7 +61,7 @@ joined-more k o r s t u d hs ho e st =
     record {
       same-length = st .same-length;
       here = here;
-      apart = λ n p a. view-apart n p a st;
+      apart = st .apart;
       still = λ f. (let z : _≡_ {A = ℕ} 0 1 = cc in absurd (omega arith));
       grown = λ _ n h. (new, more n h, fresh n h);
     }

@@ -91,13 +91,6 @@ view-stored {k} {v} {t} {u} n o r h s =
     row q i (yes e) = rw e (view-row k n o u r h ∙ s .here ∙ sym (getD-set-same (view k n o t) r v 0 long))
     row q i (no d) = view-row k n o u q i ∙ other-row o r q d s ∙ sym (view-row k n o t q i) ∙ sym (getD-set-other (view k n o t) r q v 0 d)
 
-pub view-apart : {k i v : ℕ} {t u : List ℕ} (n p : ℕ) → (p + k * n ≤ i) ⊎ (i + k ≤ p) → Stored k i v t u → view k n p u ≡ view k n p t
-view-apart {k} {i} {v} {t} {u} n p a s = view-same k n p t u (λ j l h. s .apart j (side j l h a))
-  where
-    side : (j : ℕ) → p ≤ j → j < p + k * n → (p + k * n ≤ i) ⊎ (i + k ≤ p) → (j < i) ⊎ (i + k ≤ j)
-    side j l h (inl b) = inl (omega arith)
-    side j l h (inr b) = inr (omega arith)
-
 -- ---- the width
 
 -- what a table of the width asks of the lent words, once the width is known

@@ -22,14 +22,17 @@ fn listed() -> Vec<Vec<u8>> {
     let journal = [[2, 5, 1, 0].as_slice(), &[3, 5], &[5, 2, 0, 255], &[8, 2, 5]].concat();
     let named = [[2, 5, 1, 0].as_slice(), &[3, 5], &[5, 2, 0, 4], &[8, 2, 5]].concat();
     let built_in = [[2, 5, 1, 1].as_slice(), &[3, 5], &[5, 2, 0, 255], &[8, 2, 5], &[6, 2]].concat();
-    let function = [&journal, [2, 6, 2, 0].as_slice(), &[5, 3, 0, 255], &[4, 6, 0, 0, 0, 0, 0, 0, 0], &[8, 3, 6], &[6, 3]].concat();
+    let function =
+        [&journal, [2, 6, 2, 0].as_slice(), &[5, 3, 0, 255], &[4, 6, 0, 0, 0, 0, 0, 0, 0], &[8, 3, 6], &[6, 3]]
+            .concat();
     let granted = [&journal, [6, 2].as_slice()].concat();
     let returned = [&function, [23, 6, 2].as_slice()].concat();
     vec![vec![], vec![3, 3], journal, named, granted, built_in, function, returned]
 }
 
 fn main() -> std::io::Result<()> {
-    let mut cases: Vec<(String, Vec<u8>)> = listed().into_iter().enumerate().map(|(i, f)| (format!("listed-{}", i + 1), f)).collect();
+    let mut cases: Vec<(String, Vec<u8>)> =
+        listed().into_iter().enumerate().map(|(i, f)| (format!("listed-{}", i + 1), f)).collect();
     for leaking in [false, false, true, true] {
         let number = cases.len() - 7;
         let file = (0..)

@@ -40,7 +40,7 @@ impl Program {
 
     /// Any declared label.
     pub fn label(&self, l: u8) -> Result<u8, u8> {
-        if l < 64 && self.labels[l as usize].is_some() {
+        if self.labels[l as usize].is_some() {
             Ok(l)
         } else {
             Err(BAD_LABEL)

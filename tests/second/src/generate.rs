@@ -1,27 +1,42 @@
-//! Seeded generators of statement files; each yields a name and the bytes.
+//! Seeded generators of statement files for either edition; each yields a name and the bytes.
 
 pub mod call_gadgets;
+pub mod chains;
 pub mod damaged;
 pub mod dense;
+pub mod edges;
 pub mod gadgets;
 pub mod halves;
 pub mod kit;
 pub mod object_gadgets;
 pub mod random;
+pub mod relabel;
 pub mod rounds;
+pub mod small;
 pub mod structured;
 pub mod writer;
 
-pub use damaged::{damaged, edge_mix, edges, sizes};
-pub use dense::dense;
-pub use random::random;
-pub use rounds::rounds;
-pub use structured::structured;
+use crate::edition::Edition;
+pub use damaged::damaged_in;
+pub use dense::dense_in;
+pub use edges::{edge_mix_in, edges_in, sizes_in};
+pub use random::random_in;
+pub use rounds::rounds_in;
+pub use small::{damaged, dense, edge_mix, edges, every, random, rounds, sizes, structured};
+pub use structured::structured_in;
 
 /// A file with the name to call it by.
 pub type Named = (String, Vec<u8>);
 
 /// One file of every seeded generator but the dense one for the seed.
-pub fn every(seed: u64) -> Vec<Named> {
-    vec![random(seed), structured(seed), rounds(seed), damaged(seed), edge_mix(seed)]
+pub fn every_in(edition: Edition, seed: u64) -> Vec<Named> {
+    [random_in, structured_in, rounds_in, damaged_in, edge_mix_in].map(|make| make(edition, seed)).to_vec()
+}
+
+/// The name of a seeded file.
+fn title(edition: Edition, generator: &str, seed: u64) -> String {
+    match edition {
+        Edition::Small => format!("{generator}-{seed}"),
+        Edition::Large => format!("large-{generator}-{seed}"),
+    }
 }

@@ -1,9 +1,11 @@
 //! Rows of labels with inclusions between them, kept so that every inclusion ends up true.
 
+use crate::row::Row;
+
 pub struct Graph {
-    rows: Vec<u64>,
+    rows: Vec<Row>,
     /// Labels of each row that have not yet been handed on along the row's inclusions.
-    fresh: Vec<u64>,
+    fresh: Vec<Row>,
     waiting: Vec<usize>,
     /// Which rows include each row, as a list and as bits.
     included_in: Vec<Vec<u16>>,
@@ -13,25 +15,25 @@ pub struct Graph {
 impl Graph {
     pub fn new(rows: usize) -> Graph {
         Graph {
-            rows: vec![0; rows],
-            fresh: vec![0; rows],
+            rows: vec![Row::EMPTY; rows],
+            fresh: vec![Row::EMPTY; rows],
             waiting: Vec::new(),
             included_in: vec![Vec::new(); rows],
             known: vec![0; (rows * rows).div_ceil(64)],
         }
     }
 
-    pub fn row(&self, row: usize) -> u64 {
-        self.rows[row]
+    pub fn rows(&self) -> &[Row] {
+        &self.rows
     }
 
     /// The row holds these labels. What is written to row 0, S(0), is dropped.
-    pub fn hold(&mut self, row: usize, labels: u64) {
+    pub fn hold(&mut self, row: usize, labels: Row) {
         let new = labels & !self.rows[row];
-        if row == 0 || new == 0 {
+        if row == 0 || new.is_empty() {
             return;
         }
-        if self.fresh[row] == 0 {
+        if self.fresh[row].is_empty() {
             self.waiting.push(row);
         }
         self.rows[row] |= new;
@@ -53,7 +55,7 @@ impl Graph {
     }
 
     /// Takes a row with fresh labels, hands them on, and tells the row and those labels.
-    pub fn next(&mut self) -> Option<(usize, u64)> {
+    pub fn next(&mut self) -> Option<(usize, Row)> {
         let row = self.waiting.pop()?;
         let fresh = std::mem::take(&mut self.fresh[row]);
         for i in 0..self.included_in[row].len() {

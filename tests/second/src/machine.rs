@@ -6,7 +6,7 @@ mod steps;
 
 use crate::prng::Prng;
 use crate::program::{Program, Record, GUEST, GUEST_STATEMENTS};
-use crate::rows::ROWS;
+use crate::row::Row;
 use state::State;
 
 /// What a walk came to see.
@@ -46,7 +46,7 @@ pub fn walk(program: &Program, table: &[u64], seed: u64, steps: usize) -> Result
     state.stats.objects = state.objects.len();
     state.stats.frames = state.frames.len();
     state.stats.bag = state.bag.len();
-    state.stats.witnessed = state.seen.iter().map(|row| row.count_ones()).sum();
+    state.stats.witnessed = state.seen.iter().map(|row| row.count()).sum();
     Ok(state.stats)
 }
 
@@ -57,7 +57,7 @@ pub fn witnessed(
     seeds: std::ops::Range<u64>,
     steps: usize,
 ) -> Result<Vec<u64>, String> {
-    let mut all = vec![0; ROWS];
+    let mut all = vec![Row::EMPTY; program.edition.rows()];
     for seed in seeds {
         let mut state = State::start(program, table, Prng::new(seed))?;
         let mut walker = Walker::new(program);
@@ -65,10 +65,10 @@ pub fn witnessed(
             walker.step(&mut state)?;
         }
         for (row, seen) in all.iter_mut().zip(&state.seen) {
-            *row |= seen;
+            *row |= *seen;
         }
     }
-    Ok(all)
+    Ok(program.edition.table(&all))
 }
 
 /// Chooses the steps. Every step that document 01 allows can be chosen at any time.
@@ -82,7 +82,7 @@ struct Walker {
 
 impl Walker {
     fn new(program: &Program) -> Walker {
-        let mut by_scope = vec![Vec::new(); 64];
+        let mut by_scope = vec![Vec::new(); program.edition.labels()];
         let mut statements = Vec::new();
         let mut grants = Vec::new();
         for &record in &program.records {

@@ -1,6 +1,7 @@
 //! What a readable statement file says: its declarations and its records, as plain data.
 
-use crate::rows::bit;
+use crate::edition::Edition;
+use crate::row::Row;
 
 /// The longest statement file that is read.
 pub const LONGEST_FILE: usize = 32_768;
@@ -67,40 +68,37 @@ pub const GUEST_STATEMENTS: [Record; 8] = [
 
 #[derive(Clone, Debug)]
 pub struct Program {
-    pub labels: [Option<Label>; 64],
-    pub functions: [Option<Function>; 64],
+    pub edition: Edition,
+    /// In the small edition nothing is ever declared of labels 64 to 255.
+    pub labels: [Option<Label>; 256],
+    pub functions: [Option<Function>; 256],
     pub variables: [Option<Variable>; 256],
     pub masks: [Option<u8>; 32],
-    pub forbidden: u64,
+    pub forbidden: Row,
     /// Records of kinds 6 to 26 in the order of the file.
     pub records: Vec<Record>,
     /// The statements of the guest, which belong to no record.
     pub guest: Vec<Record>,
 }
 
-impl Default for Program {
-    fn default() -> Program {
-        Program::new()
-    }
-}
-
 impl Program {
     /// What the empty file says: labels 0 to 4, and function 3 with 1 as this and all formals.
-    pub fn new() -> Program {
-        let mut labels = [None; 64];
+    pub fn new(edition: Edition) -> Program {
+        let mut labels = [None; 256];
         labels[0] = Some(Label { kind: Type::Plain, built_in: false });
         labels[1] = Some(Label { kind: Type::Plain, built_in: true });
         labels[2] = Some(Label { kind: Type::Plain, built_in: true });
         labels[3] = Some(Label { kind: Type::Function, built_in: false });
         labels[4] = Some(Label { kind: Type::Plain, built_in: true });
-        let mut functions = [None; 64];
+        let mut functions = [None; 256];
         functions[GUEST as usize] = Some(Function { this: BAG, formals: [BAG; 6] });
         Program {
+            edition,
             labels,
             functions,
             variables: [None; 256],
             masks: [None; 32],
-            forbidden: 0,
+            forbidden: Row::EMPTY,
             records: Vec::new(),
             guest: GUEST_STATEMENTS.to_vec(),
         }
@@ -108,12 +106,12 @@ impl Program {
 
     /// The declared labels with what was declared of them, ascending.
     pub fn declared(&self) -> impl Iterator<Item = (u8, Label)> + '_ {
-        (0u8..64).filter_map(|l| self.labels[l as usize].map(|label| (l, label)))
+        (0u8..=255).filter_map(|l| self.labels[l as usize].map(|label| (l, label)))
     }
 
     /// The declared labels as a row.
-    pub fn declared_row(&self) -> u64 {
-        self.declared().fold(0, |row, (l, _)| row | bit(l))
+    pub fn declared_row(&self) -> Row {
+        self.declared().map(|(l, _)| l).collect()
     }
 
     /// The function of label `l`, if `l` is a function label.

@@ -1,8 +1,9 @@
 //! Reads a statement file, or says by number and position why it is refused.
 
+use crate::edition::Edition;
 use crate::fields::{key, name, BAD_LABEL, BAD_NAME, BAD_VARIABLE, TWICE};
 use crate::program::{Function, Label, Program, Record, Type, Variable, LONGEST_FILE};
-use crate::rows::{bit, ROWS};
+use crate::row::Row;
 
 #[derive(Clone, Copy, PartialEq, Eq, Debug)]
 pub struct Refusal {
@@ -10,20 +11,25 @@ pub struct Refusal {
     pub position: usize,
 }
 
-/// Reads a file for which a table of `table_words` words is lent: refusal 8, then those of `read`.
-pub fn read_with_table(file: &[u8], table_words: usize) -> Result<Program, Refusal> {
-    if table_words < ROWS {
+/// Reads a file of the small edition.
+pub fn read(file: &[u8]) -> Result<Program, Refusal> {
+    read_in(Edition::Small, file)
+}
+
+/// Reads a file for which a table of `table_words` words is lent: refusal 8, then those of `read_in`.
+pub fn read_with_table(edition: Edition, file: &[u8], table_words: usize) -> Result<Program, Refusal> {
+    if table_words < edition.table_words() {
         return Err(Refusal { number: 8, position: 0 });
     }
-    read(file)
+    read_in(edition, file)
 }
 
 /// Reads a file: refusal 9, then the records in order (1 to 6), then 7.
-pub fn read(file: &[u8]) -> Result<Program, Refusal> {
+pub fn read_in(edition: Edition, file: &[u8]) -> Result<Program, Refusal> {
     if file.len() > LONGEST_FILE {
         return Err(Refusal { number: 9, position: 0 });
     }
-    let mut program = Program::new();
+    let mut program = Program::new(edition);
     let mut position = 0;
     while position < file.len() {
         let refuse = |number| Refusal { number, position };
@@ -38,7 +44,7 @@ pub fn read(file: &[u8]) -> Result<Program, Refusal> {
         let label = program.labels[l as usize];
         label.is_some_and(|x| x.kind == Type::Function) && program.functions[l as usize].is_none()
     };
-    if (5..64).any(unwritten) {
+    if edition.declarable().any(unwritten) {
         return Err(Refusal { number: 7, position: file.len() });
     }
     Ok(program)
@@ -76,7 +82,7 @@ fn take(program: &mut Program, kind: u8, b: &[u8]) -> Result<(), u8> {
         1 => return take_name(program, b[0], b[1]),
         2 => return take_label(program, b[0], b[1], b[2]),
         3 => {
-            program.forbidden |= bit(program.label(b[0])?);
+            program.forbidden |= Row::of(program.label(b[0])?);
             return Ok(());
         }
         4 => return take_function(program, b),
@@ -139,7 +145,7 @@ fn take_name(program: &mut Program, n: u8, mask: u8) -> Result<(), u8> {
 }
 
 fn take_label(program: &mut Program, l: u8, kind: u8, flag: u8) -> Result<(), u8> {
-    if !(5..=63).contains(&l) {
+    if !program.edition.declarable().contains(&l) {
         return Err(BAD_LABEL);
     }
     let kind = match kind {

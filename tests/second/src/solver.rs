@@ -1,9 +1,10 @@
 //! Solves the rules of document 01: every rule is an inclusion between rows, or waits for a label in a row.
 
+use crate::edition::Edition;
 use crate::graph::Graph;
 use crate::program::{Program, Record, Type, BAG};
 use crate::reader::{read_with_table, Refusal};
-use crate::rows::{bit, h, labels, p, s, t, ROWS};
+use crate::row::Row;
 
 #[derive(Clone, Copy, PartialEq, Eq, Debug)]
 pub enum Verdict {
@@ -19,22 +20,27 @@ pub struct Answer {
     pub facts: u32,
 }
 
-/// Helper row: the labels on the chains of what variable v may hold.
-fn chain(v: u8) -> usize {
-    ROWS + v as usize
-}
+/// Helper rows, after those of the table.
+impl Edition {
+    /// The labels on the chains of what variable v may hold.
+    fn chain(self, v: u8) -> usize {
+        self.rows() + v as usize
+    }
 
-/// Helper row: what prim on variable v may call, that is H(m,1) and H(m,2) for m on its chains.
-fn methods(v: u8) -> usize {
-    ROWS + 256 + v as usize
-}
+    /// What prim on variable v may call, that is H(m,1) and H(m,2) for m on its chains.
+    fn methods(self, v: u8) -> usize {
+        self.rows() + 256 + v as usize
+    }
 
-/// Helper row: what the returns in scope f may give.
-fn returned(f: u8) -> usize {
-    ROWS + 512 + f as usize
-}
+    /// What the returns in scope f may give.
+    fn returned(self, f: u8) -> usize {
+        self.rows() + 512 + f as usize
+    }
 
-const ALL_ROWS: usize = ROWS + 576;
+    fn all_rows(self) -> usize {
+        self.rows() + 512 + self.labels()
+    }
+}
 
 /// What follows when a label x enters the row that is watched.
 #[derive(Clone, Copy)]
@@ -67,10 +73,11 @@ struct Solver<'a> {
 
 /// The least fact set of the rules, the verdict and the number of facts.
 pub fn solve(program: &Program) -> Answer {
+    let e = program.edition;
     let mut solver = Solver {
         program,
-        graph: Graph::new(ALL_ROWS),
-        waits: vec![Vec::new(); ALL_ROWS],
+        graph: Graph::new(e.all_rows()),
+        waits: vec![Vec::new(); e.all_rows()],
         names: (0..=255).map(|key| if key < 136 { program.names(key).collect() } else { vec![] }).collect(),
     };
     solver.start();
@@ -78,54 +85,61 @@ pub fn solve(program: &Program) -> Answer {
         solver.lay(record);
     }
     solver.run();
-    let table: Vec<u64> = (0..ROWS).map(|row| solver.graph.row(row)).collect();
-    let facts = table.iter().map(|row| row.count_ones()).sum();
+    let table = e.table(&solver.graph.rows()[..e.rows()]);
+    let facts = table.iter().map(|word| word.count_ones()).sum();
     Answer { verdict: verdict_of(program, &table), facts, table }
 }
 
-/// The whole operation: refusals first, else the table is written over its first 2,432 words.
+/// The whole operation in the small edition.
 pub fn verdict(file: &[u8], table: &mut [u64]) -> Result<Answer, Refusal> {
-    let answer = solve(&read_with_table(file, table.len())?);
-    table[..ROWS].copy_from_slice(&answer.table);
+    verdict_in(Edition::Small, file, table)
+}
+
+/// The whole operation: refusals first, else the first words of the lent table, as many as the edition's tables have, are written.
+pub fn verdict_in(edition: Edition, file: &[u8], table: &mut [u64]) -> Result<Answer, Refusal> {
+    let answer = solve(&read_with_table(edition, file, table.len())?);
+    table[..edition.table_words()].copy_from_slice(&answer.table);
     Ok(answer)
 }
 
 /// Leaks if S(1) holds a forbidden label.
 pub fn verdict_of(program: &Program, table: &[u64]) -> Verdict {
-    match labels(table[s(BAG)] & program.forbidden).next() {
+    let bag = program.edition.row(table, program.edition.s(BAG));
+    match (bag & program.forbidden).lowest() {
         Some(l) => Verdict::Leaks(l),
         None => Verdict::Confined,
     }
 }
 
 /// What the P line gives label l of that type without any premise.
-pub fn chain_without_members(l: u8, kind: Type) -> u64 {
+pub fn chain_without_members(l: u8, kind: Type) -> Row {
     let by_type = match kind {
         Type::Plain => 1,
         Type::Function => 2,
         Type::Array => 4,
     };
-    let by_label = match l {
-        0 | 2 | 4 => bit(1),
-        3 => bit(1) | bit(2) | bit(4),
-        _ => 0,
+    let by_label: &[u8] = match l {
+        0 | 2 | 4 => &[1],
+        3 => &[1, 2, 4],
+        _ => &[],
     };
-    bit(l) | bit(by_type) | by_label
+    [l, by_type].into_iter().chain(by_label.iter().copied()).collect()
 }
 
 impl Solver<'_> {
     /// The P line, the names of variables, and the chains of variables.
     fn start(&mut self) {
+        let e = self.program.edition;
         for (l, label) in self.program.declared() {
-            self.wait(p(l), Wait::Chain { l });
-            self.graph.hold(p(l), chain_without_members(l, label.kind));
+            self.wait(e.p(l), Wait::Chain { l });
+            self.graph.hold(e.p(l), chain_without_members(l, label.kind));
         }
         for (v, n) in self.program.named() {
-            self.graph.include(s(v), h(0, n));
-            self.graph.include(h(0, n), s(v));
+            self.graph.include(e.s(v), e.h(0, n));
+            self.graph.include(e.h(0, n), e.s(v));
         }
         for v in 1..=255 {
-            self.wait(s(v), Wait::ChainOfVariable { v });
+            self.wait(e.s(v), Wait::ChainOfVariable { v });
         }
     }
 
@@ -135,38 +149,39 @@ impl Solver<'_> {
 
     /// Lays the rules of one record.
     fn lay(&mut self, record: Record) {
+        let e = self.program.edition;
         match record {
             Record::Grant { v } => {
-                self.graph.include(s(BAG), s(v));
-                self.graph.include(s(v), s(BAG));
+                self.graph.include(e.s(BAG), e.s(v));
+                self.graph.include(e.s(v), e.s(BAG));
             }
-            Record::Property { l, n, x } => self.graph.hold(h(l, n), bit(x)),
-            Record::Held { v, l } => self.graph.hold(s(v), bit(l)),
-            Record::Copy { y, source, .. } => self.graph.include(s(y), s(source)),
+            Record::Property { l, n, x } => self.graph.hold(e.h(l, n), Row::of(x)),
+            Record::Held { v, l } => self.graph.hold(e.s(v), Row::of(l)),
+            Record::Copy { y, source, .. } => self.graph.include(e.s(y), e.s(source)),
             Record::Load { y, object, key, w, .. } => {
-                self.graph.hold(s(object), bit(w));
-                self.wait(p(w), Wait::Load { y, key });
-                self.wait(chain(object), Wait::Load { y, key });
+                self.graph.hold(e.s(object), Row::of(w));
+                self.wait(e.p(w), Wait::Load { y, key });
+                self.wait(e.chain(object), Wait::Load { y, key });
             }
-            Record::Store { object, key, value, .. } => self.wait(s(object), Wait::Store { key, value }),
-            Record::Make { y, l, .. } => self.graph.hold(s(y), bit(l)),
+            Record::Store { object, key, value, .. } => self.wait(e.s(object), Wait::Store { key, value }),
+            Record::Make { y, l, .. } => self.graph.hold(e.s(y), Row::of(l)),
             Record::MakeFunction { y, l, q, .. } => {
-                self.graph.hold(s(y), bit(l));
-                self.graph.hold(h(l, 3), bit(q));
+                self.graph.hold(e.s(y), Row::of(l));
+                self.graph.hold(e.h(l, 3), Row::of(q));
             }
-            Record::Call { k, y, callee, this, args } => self.wait(s(callee), Wait::Call { k, y, this, args }),
+            Record::Call { k, y, callee, this, args } => self.wait(e.s(callee), Wait::Call { k, y, this, args }),
             Record::New { k, y, callee, t, l, args } => {
-                self.graph.hold(s(t), bit(l));
-                self.graph.include(s(y), s(t));
-                self.wait(chain(callee), Wait::Prototype { l });
-                self.wait(s(callee), Wait::Call { k, y, this: t, args });
+                self.graph.hold(e.s(t), Row::of(l));
+                self.graph.include(e.s(y), e.s(t));
+                self.wait(e.chain(callee), Wait::Prototype { l });
+                self.wait(e.s(callee), Wait::Call { k, y, this: t, args });
             }
-            Record::Return { k, value } => self.graph.include(returned(k), s(value)),
-            Record::Throw { k, value } => self.graph.include(t(k), s(value)),
-            Record::Catch { k, y } => self.graph.include(s(y), t(k)),
+            Record::Return { k, value } => self.graph.include(e.returned(k), e.s(value)),
+            Record::Throw { k, value } => self.graph.include(e.t(k), e.s(value)),
+            Record::Catch { k, y } => self.graph.include(e.s(y), e.t(k)),
             Record::Prim { k, object } => {
-                self.wait(chain(object), Wait::Methods { object });
-                self.wait(methods(object), Wait::Prim { k, object });
+                self.wait(e.chain(object), Wait::Methods { object });
+                self.wait(e.methods(object), Wait::Prim { k, object });
             }
         }
     }
@@ -176,7 +191,7 @@ impl Solver<'_> {
         while let Some((row, fresh)) = self.graph.next() {
             for i in 0..self.waits[row].len() {
                 let wait = self.waits[row][i];
-                for x in labels(fresh) {
+                for x in fresh.labels() {
                     self.follow(wait, x);
                 }
             }
@@ -184,40 +199,41 @@ impl Solver<'_> {
     }
 
     fn follow(&mut self, wait: Wait, x: u8) {
+        let e = self.program.edition;
         match wait {
-            Wait::Chain { l } => self.graph.include(p(l), p(x)),
-            Wait::ChainOfVariable { v } => self.graph.include(chain(v), p(x)),
+            Wait::Chain { l } => self.graph.include(e.p(l), e.p(x)),
+            Wait::ChainOfVariable { v } => self.graph.include(e.chain(v), e.p(x)),
             Wait::Load { y, key } => {
                 for &n in &self.names[key as usize] {
-                    self.graph.include(s(y), h(x, n));
+                    self.graph.include(e.s(y), e.h(x, n));
                 }
             }
             Wait::Store { key, value } => {
                 if !self.program.is_built_in(x) {
                     for &n in &self.names[key as usize] {
-                        self.graph.include(h(x, n), s(value));
+                        self.graph.include(e.h(x, n), e.s(value));
                     }
                 }
             }
             Wait::Call { k, y, this, args } => {
                 if let Some(f) = self.program.function(x) {
-                    self.graph.include(s(f.this), s(this));
+                    self.graph.include(e.s(f.this), e.s(this));
                     for (formal, arg) in f.formals.into_iter().zip(args) {
-                        self.graph.include(s(formal), s(arg));
+                        self.graph.include(e.s(formal), e.s(arg));
                     }
-                    self.graph.include(s(y), returned(x));
-                    self.graph.include(t(k), t(x));
+                    self.graph.include(e.s(y), e.returned(x));
+                    self.graph.include(e.t(k), e.t(x));
                 }
             }
-            Wait::Prototype { l } => self.graph.include(p(l), h(x, 3)),
+            Wait::Prototype { l } => self.graph.include(e.p(l), e.h(x, 3)),
             Wait::Methods { object } => {
-                self.graph.include(methods(object), h(x, 1));
-                self.graph.include(methods(object), h(x, 2));
+                self.graph.include(e.methods(object), e.h(x, 1));
+                self.graph.include(e.methods(object), e.h(x, 2));
             }
             Wait::Prim { k, object } => {
                 if let Some(f) = self.program.function(x) {
-                    self.graph.include(s(f.this), s(object));
-                    self.graph.include(t(k), t(x));
+                    self.graph.include(e.s(f.this), e.s(object));
+                    self.graph.include(e.t(k), e.t(x));
                 }
             }
         }

@@ -1,17 +1,22 @@
-//! The generators: the same file for the same seed, readable where they promise it, and of every kind.
+//! The generators in both editions: the same file for the same seed, readable where they promise it, and of every kind.
 
-use second::generate::{damaged, dense, every, random, rounds, structured, Named};
-use second::reader::{body_length, read};
+use second::generate::{damaged_in, dense_in, every, every_in, random_in, rounds_in, structured_in, Named};
+use second::reader::{body_length, read_in};
 use second::solver::{solve, Verdict};
+use second::Edition;
+use std::time::{Duration, Instant};
+
+type Make = fn(Edition, u64) -> Named;
+const READABLE: [(&str, Make); 3] = [("random", random_in), ("structured", structured_in), ("rounds", rounds_in)];
 
 /// Files that are confined and that leak, among `seeds` seeds; the time of the slowest solution is printed.
-fn shares(title: &str, make: fn(u64) -> Named, seeds: u64) -> (u64, u64) {
+fn shares(edition: Edition, title: &str, make: Make, seeds: u64) -> (u64, u64) {
     let (mut confined, mut leaks, mut bytes, mut facts) = (0, 0, 0, 0u64);
-    let mut slowest = (std::time::Duration::ZERO, String::new());
+    let mut slowest = (Duration::ZERO, String::new());
     for seed in 0..seeds {
-        let (name, file) = make(seed);
-        let program = read(&file).unwrap_or_else(|r| panic!("{name}: {r:?}"));
-        let started = std::time::Instant::now();
+        let (name, file) = make(edition, seed);
+        let program = read_in(edition, &file).unwrap_or_else(|r| panic!("{name}: {r:?}"));
+        let started = Instant::now();
         let answer = solve(&program);
         slowest = slowest.max((started.elapsed(), name));
         match answer.verdict {
@@ -22,7 +27,7 @@ fn shares(title: &str, make: fn(u64) -> Named, seeds: u64) -> (u64, u64) {
         facts += answer.facts as u64;
     }
     println!(
-        "{title}: {confined} confined, {leaks} leak, {} bytes and {} facts on average, slowest {slowest:?}",
+        "{edition:?} {title}: {confined} confined, {leaks} leak, {} bytes and {} facts on average, slowest {slowest:?}",
         bytes as u64 / seeds,
         facts / seeds
     );
@@ -32,56 +37,100 @@ fn shares(title: &str, make: fn(u64) -> Named, seeds: u64) -> (u64, u64) {
 #[test]
 fn same_seed_same_file() {
     for seed in 0..300 {
-        assert_eq!(every(seed), every(seed));
+        for edition in Edition::BOTH {
+            assert_eq!(every_in(edition, seed), every_in(edition, seed));
+        }
+        assert_eq!(every(seed), every_in(Edition::Small, seed));
     }
-    assert_ne!(random(1).1, random(2).1);
-    assert_ne!(structured(1).1, structured(2).1);
+    for edition in Edition::BOTH {
+        assert_ne!(random_in(edition, 1).1, random_in(edition, 2).1);
+        assert_ne!(structured_in(edition, 1).1, structured_in(edition, 2).1);
+    }
 }
 
 #[test]
 fn fair_shares_of_readable_files() {
-    for (title, make) in [("random", random as fn(u64) -> Named), ("structured", structured), ("rounds", rounds)] {
-        let (confined, leaks) = shares(title, make, 1000);
-        assert!(confined >= 100 && leaks >= 100, "{title}");
+    for edition in Edition::BOTH {
+        for (title, make) in READABLE {
+            let (confined, leaks) = shares(edition, title, make, 1000);
+            assert!(confined >= 100 && leaks >= 100, "{edition:?} {title}");
+        }
     }
 }
 
 #[test]
 fn dense_files_are_full() {
-    shares("dense", dense, 60);
-    assert!((0..60).all(|seed| dense(seed).1.len() == 32_768));
+    for edition in Edition::BOTH {
+        shares(edition, "dense", dense_in, 60);
+        assert!((0..60).all(|seed| dense_in(edition, seed).1.len() == 32_768));
+    }
 }
 
 #[test]
 fn every_kind_is_written() {
-    for (title, make) in [("random", random as fn(u64) -> Named), ("structured", structured)] {
+    for (edition, (title, make)) in Edition::BOTH.into_iter().flat_map(|e| [(e, READABLE[0]), (e, READABLE[1])]) {
         let mut counts = [0usize; 27];
         for seed in 0..400 {
-            let file = make(seed).1;
+            let file = make(edition, seed).1;
             let mut at = 0;
             while at < file.len() {
                 counts[file[at] as usize] += 1;
                 at += 1 + body_length(file[at]).expect("a kind");
             }
         }
-        println!("{title}: records by kind {counts:?}");
-        assert!((1..=8).chain(16..=26).all(|kind| counts[kind] > 0), "{title}");
+        println!("{edition:?} {title}: records by kind {counts:?}");
+        assert!((1..=8).chain(16..=26).all(|kind| counts[kind] > 0), "{edition:?} {title}");
     }
 }
 
 #[test]
 fn sizes_of_random_files() {
-    let lengths: Vec<usize> = (0..400).map(|seed| random(seed).1.len()).collect();
-    assert!(lengths.iter().any(|&n| n < 50) && lengths.contains(&32_768) && lengths.iter().all(|&n| n <= 32_768));
+    for edition in Edition::BOTH {
+        let lengths: Vec<usize> = (0..400).map(|seed| random_in(edition, seed).1.len()).collect();
+        assert!(lengths.iter().any(|&n| n < 50) && lengths.contains(&32_768) && lengths.iter().all(|&n| n <= 32_768));
+    }
+}
+
+/// Files of the large edition have 200 and more labels, few, or any number; those of any generator are declared in all words of a row.
+#[test]
+fn labels_of_the_large_edition() {
+    let counts = |make: Make, seeds: u64| -> Vec<(usize, usize)> {
+        let files = (0..seeds).map(|seed| make(Edition::Large, seed).1);
+        files
+            .map(|file| {
+                let declared = read_in(Edition::Large, &file).expect("readable").declared_row();
+                (declared.count() as usize, file.len())
+            })
+            .collect()
+    };
+    for (title, make) in READABLE {
+        let all = counts(make, 400);
+        let many = all.iter().filter(|(labels, _)| *labels >= 200).count();
+        let full = all.iter().filter(|(labels, bytes)| *labels >= 200 && *bytes == 32_768).count();
+        println!("{title}: {many} of 400 files have 200 labels or more, {full} of them full size");
+        assert!(many >= 10 && (full >= 5 || title != "random"), "{title}");
+    }
+    assert!(counts(dense_in, 10).iter().all(|(labels, bytes)| *labels == 256 && *bytes == 32_768));
+    for (title, make) in READABLE {
+        for seed in 0..400 {
+            let declared = read_in(Edition::Large, &make(Edition::Large, seed).1).expect("readable").declared_row();
+            let words = declared.words(Edition::Large);
+            if declared.count() > 50 {
+                assert!(words.iter().all(|word| word.count_ones() > 0), "{title} {seed}");
+            }
+        }
+    }
 }
 
 #[test]
 fn damaged_files_meet_every_refusal() {
-    let mut counts = [0usize; 10];
-    for seed in 0..4000 {
-        let number = read(&damaged(seed).1).err().map_or(0, |r| r.number);
-        counts[number as usize] += 1;
+    for edition in Edition::BOTH {
+        let mut counts = [0usize; 10];
+        for seed in 0..4000 {
+            let number = read_in(edition, &damaged_in(edition, seed).1).err().map_or(0, |r| r.number);
+            counts[number as usize] += 1;
+        }
+        println!("{edition:?}: damaged by refusal number {counts:?}");
+        assert!((0..8).all(|number| counts[number] > 0));
     }
-    println!("damaged by refusal number: {counts:?}");
-    assert!((0..8).all(|number| counts[number] > 0));
 }

@@ -1,18 +1,29 @@
-//! The eight listed files of document 01, its edges, and its traps, against reader, solver and check.
+//! The eight listed files of document 01, its edges, and its traps, against reader, solver and check, in both editions.
 
-use second::check::check;
+use second::check::check_in;
 use second::generate::writer::Writer;
-use second::reader::{read, read_with_table, Refusal};
-use second::report::report;
-use second::rows::{bit, h, p, s, t, ROWS};
-use second::solver::{solve, verdict, Answer, Verdict};
+use second::reader::{read_in, read_with_table, Refusal};
+use second::report::{report, report_in};
+use second::row::Row;
+use second::solver::{solve, verdict_in, Answer, Verdict};
+use second::Edition;
 
-fn answer(bytes: &[u8]) -> Answer {
-    solve(&read(bytes).expect("readable"))
+fn answer(edition: Edition, bytes: &[u8]) -> Answer {
+    solve(&read_in(edition, bytes).expect("readable"))
 }
 
-fn refusal(bytes: &[u8]) -> (u8, usize) {
-    let Refusal { number, position } = read(bytes).expect_err("refused");
+/// The rows of the table of a file.
+fn rows(edition: Edition, w: &Writer) -> Vec<Row> {
+    let table = answer(edition, &w.bytes).table;
+    (0..edition.rows()).map(|row| edition.row(&table, row)).collect()
+}
+
+fn row(labels: &[u8]) -> Row {
+    labels.iter().copied().collect()
+}
+
+fn refusal(edition: Edition, bytes: &[u8]) -> (u8, usize) {
+    let Refusal { number, position } = read_in(edition, bytes).expect_err("refused");
     (number, position)
 }
 
@@ -46,59 +57,86 @@ fn listed_files() {
         (file_seven().bytes, Verdict::Confined, 152),
         (eight.bytes, Verdict::Leaks(5), 316),
     ];
-    for (i, (bytes, verdict, facts)) in list.into_iter().enumerate() {
-        let answer = answer(&bytes);
-        assert_eq!((answer.verdict, answer.facts), (verdict, facts), "file {}", i + 1);
-        let expected = match verdict {
-            Verdict::Confined => Ok(()),
-            Verdict::Leaks(l) => Err(Refusal { number: 11, position: l as usize }),
-        };
-        assert_eq!(check(&bytes, &answer.table), expected, "file {}", i + 1);
+    for edition in Edition::BOTH {
+        for (i, (bytes, verdict, facts)) in list.iter().enumerate() {
+            let answer = answer(edition, bytes);
+            assert_eq!((answer.verdict, answer.facts), (*verdict, *facts), "file {}", i + 1);
+            let expected = match *verdict {
+                Verdict::Confined => Ok(()),
+                Verdict::Leaks(l) => Err(Refusal { number: 11, position: l as usize }),
+            };
+            assert_eq!(check_in(edition, bytes, &answer.table), expected, "file {}", i + 1);
+        }
+        assert_eq!(report_in(edition, &[]), "confined 45\nguest 3\n");
+        assert_eq!(report_in(edition, &list[4].0), "leaks 5 148\nguest 3 5\n");
+        assert_eq!(report_in(edition, &[3, 3, 9]), "refused 1 2\n");
     }
-    assert_eq!(report(&[]), "confined 45\nguest 3\n");
-    let mut five = file_three(255, 0);
-    assert_eq!(report(&five.grant(2).bytes), "leaks 5 148\nguest 3 5\n");
-    assert_eq!(report(&[3, 3, 9]), "refused 1 2\n");
+    assert_eq!(report(&list[4].0), "leaks 5 148\nguest 3 5\n");
+}
+
+/// File 5 with label 255 for 5.
+#[test]
+fn the_last_label_of_the_large_edition() {
+    let mut w = Writer::new();
+    w.label(255, 1, 0).forbid(255).variable(2, 0, 255).held(2, 255).grant(2);
+    assert_eq!(report_in(Edition::Large, &w.bytes), "leaks 255 148\nguest 3 255\n");
+    assert_eq!(report_in(Edition::Small, &w.bytes), "refused 4 0\n");
+    let table = answer(Edition::Large, &w.bytes).table;
+    assert_eq!(check_in(Edition::Large, &w.bytes, &table), Err(Refusal { number: 11, position: 255 }));
+    assert_eq!(table[4..8], [8, 0, 0, 1 << 63]);
 }
 
 #[test]
 fn edges_of_size() {
-    let longest = [3, 3].repeat(16_384);
-    assert_eq!(answer(&longest).verdict, Verdict::Leaks(3));
-    assert_eq!(refusal(&vec![0; 32_769]), (9, 0));
-    assert_eq!(read_with_table(&vec![0; 32_769], ROWS - 1).expect_err("short"), Refusal { number: 8, position: 0 });
-    assert_eq!(read_with_table(&[0], 0).expect_err("short"), Refusal { number: 8, position: 0 });
-    assert_eq!(read_with_table(&[0], ROWS).expect_err("kind"), Refusal { number: 1, position: 0 });
+    for (edition, words) in [(Edition::Small, 2_432), (Edition::Large, 35_840)] {
+        let longest = [3, 3].repeat(16_384);
+        assert_eq!(answer(edition, &longest).verdict, Verdict::Leaks(3));
+        assert_eq!(refusal(edition, &vec![0; 32_769]), (9, 0));
+        let refused = |file: &[u8], words| read_with_table(edition, file, words).expect_err("refused");
+        assert_eq!(refused(&vec![0; 32_769], words - 1), Refusal { number: 8, position: 0 });
+        assert_eq!(refused(&[], words - 1), Refusal { number: 8, position: 0 });
+        assert_eq!(refused(&[0], 0), Refusal { number: 8, position: 0 });
+        assert_eq!(refused(&[0], words), Refusal { number: 1, position: 0 });
+        assert!(read_with_table(edition, &[], words).is_ok());
+    }
 }
 
 #[test]
 fn edges_of_keys_and_labels() {
-    for (key, good) in
-        [(0, true), (31, true), (32, false), (127, false), (128, true), (135, true), (136, false), (255, false)]
-    {
-        let mut w = Writer::new();
-        let end = w.label(5, 1, 0).bytes.len();
-        w.load(0, 0, 0, key, 5);
-        assert_eq!(read(&w.bytes).err(), if good { None } else { Some(Refusal { number: 5, position: end }) });
-    }
-    for (l, good) in [(4, false), (5, true), (63, true), (64, false), (255, false)] {
-        let mut w = Writer::new();
-        w.label(l, 1, 0);
-        assert_eq!(read(&w.bytes).err(), if good { None } else { Some(Refusal { number: 4, position: 0 }) });
+    for edition in Edition::BOTH {
+        for (key, good) in
+            [(0, true), (31, true), (32, false), (127, false), (128, true), (135, true), (136, false), (255, false)]
+        {
+            let mut w = Writer::new();
+            let end = w.label(5, 1, 0).bytes.len();
+            w.load(0, 0, 0, key, 5);
+            let expected = if good { None } else { Some(Refusal { number: 5, position: end }) };
+            assert_eq!(read_in(edition, &w.bytes).err(), expected);
+        }
+        let large = edition == Edition::Large;
+        for (l, good) in [(4, false), (5, true), (63, true), (64, large), (200, large), (255, large)] {
+            let mut w = Writer::new();
+            w.label(l, 1, 0);
+            let expected = if good { None } else { Some(Refusal { number: 4, position: 0 }) };
+            assert_eq!(read_in(edition, &w.bytes).err(), expected);
+        }
     }
 }
 
 #[test]
 fn a_refusal_leaves_the_table_and_a_verdict_leaves_the_rest() {
-    let mut table = vec![7u64; ROWS + 3];
-    assert!(verdict(&[0], &mut table).is_err());
-    assert!(table.iter().all(|&word| word == 7));
-    let answer = verdict(&[], &mut table).expect("empty file");
-    assert_eq!(table[..ROWS], answer.table[..]);
-    assert_eq!(table[ROWS..], [7, 7, 7]);
-    let mut short = vec![7u64; ROWS - 1];
-    assert_eq!(verdict(&[], &mut short).map(|_| ()), Err(Refusal { number: 8, position: 0 }));
-    assert!(short.iter().all(|&word| word == 7));
+    for edition in Edition::BOTH {
+        let words = edition.table_words();
+        let mut table = vec![7u64; words + 3];
+        assert!(verdict_in(edition, &[0], &mut table).is_err());
+        assert!(table.iter().all(|&word| word == 7));
+        let answer = verdict_in(edition, &[], &mut table).expect("empty file");
+        assert_eq!(table[..words], answer.table[..]);
+        assert_eq!(table[words..], [7, 7, 7]);
+        let mut short = vec![7u64; words - 1];
+        assert_eq!(verdict_in(edition, &[], &mut short).map(|_| ()), Err(Refusal { number: 8, position: 0 }));
+        assert!(short.iter().all(|&word| word == 7));
+    }
 }
 
 /// The trap of figure 6: a call without arguments still returns and throws.
@@ -107,8 +145,10 @@ fn a_call_without_arguments_returns_and_throws() {
     let mut w = file_three(255, 0);
     w.label(6, 2, 0).function(6, 0, [0; 6]).variable(3, 0, 255).variable(4, 0, 255).held(3, 6);
     w.give_back(6, 2).throw(6, 2).call(0, 4, 3, 0, [0; 6]);
-    let table = answer(&w.bytes).table;
-    assert_eq!((table[s(4)], table[t(0)], table[t(6)]), (bit(5), bit(5), bit(5)));
+    for e in Edition::BOTH {
+        let rows = rows(e, &w);
+        assert_eq!((rows[e.s(4)], rows[e.t(0)], rows[e.t(6)]), (row(&[5]), row(&[5]), row(&[5])));
+    }
 }
 
 /// w counts at a load from variable 0 and from a variable that holds nothing, and enters the latter.
@@ -117,38 +157,45 @@ fn the_wrapper_counts_at_every_load() {
     let mut w = Writer::new();
     w.label(5, 1, 0).label(6, 1, 0).variable(2, 0, 255).variable(3, 0, 255).variable(4, 0, 255);
     w.property(5, 7, 6).property(1, 8, 4).load(0, 3, 0, 7, 5).load(0, 4, 2, 8, 5);
-    let table = answer(&w.bytes).table;
-    assert_eq!((table[s(0)], table[s(2)], table[s(3)], table[s(4)]), (0, bit(5), bit(6), bit(4)));
+    for e in Edition::BOTH {
+        let rows = rows(e, &w);
+        assert_eq!(
+            (rows[e.s(0)], rows[e.s(2)], rows[e.s(3)], rows[e.s(4)]),
+            (row(&[]), row(&[5]), row(&[6]), row(&[4]))
+        );
+    }
 }
 
 /// Prim hands the labels of the object, and not a variable, to the method's this; both names are called.
 #[test]
 fn prim_calls_both_methods() {
-    for n in [1, 2, 3] {
+    for (e, n) in Edition::BOTH.into_iter().flat_map(|e| [(e, 1), (e, 2), (e, 3)]) {
         let mut w = Writer::new();
         w.label(5, 1, 0).label(6, 2, 0).variable(2, 0, 255).variable(3, 6, 255).function(6, 3, [0; 6]);
         w.property(5, n, 6).held(2, 5).prim(0, 2).throw(6, 3);
-        let table = answer(&w.bytes).table;
-        let expected = if n == 3 { 0 } else { bit(5) };
-        assert_eq!((table[s(3)], table[t(0)]), (expected, expected));
+        let rows = rows(e, &w);
+        let expected = if n == 3 { row(&[]) } else { row(&[5]) };
+        assert_eq!((rows[e.s(3)], rows[e.t(0)]), (expected, expected));
     }
 }
 
 /// New: the prototype comes from every m on the callee's chains, and the own object is on its chain.
 #[test]
 fn new_sets_prototypes() {
-    let mut w = Writer::new();
-    w.label(5, 1, 0).label(6, 2, 0).label(7, 1, 0).label(8, 1, 0).function(6, 0, [0; 6]);
-    w.variable(2, 0, 255).variable(3, 0, 255).variable(4, 0, 255);
-    w.make_function(0, 2, 6, 7).property(2, 3, 8).new_object(0, 3, 2, 4, 5, [0; 6]);
-    let table = answer(&w.bytes).table;
-    assert_eq!(table[p(5)], bit(5) | bit(1) | bit(7) | bit(8));
-    assert_eq!((table[s(3)], table[s(4)], table[h(6, 3)]), (bit(5), bit(5), bit(7)));
-    // A callee that is no function still gives its property 3 to the chain, but is not called.
-    let mut w = Writer::new();
-    w.label(5, 1, 0).label(7, 1, 0).variable(2, 0, 255).variable(4, 0, 255).held(2, 7);
-    w.property(7, 3, 4).new_object(0, 0, 2, 4, 5, [2; 6]);
-    assert_eq!(answer(&w.bytes).table[p(5)], bit(5) | bit(1) | bit(4));
+    for e in Edition::BOTH {
+        let mut w = Writer::new();
+        w.label(5, 1, 0).label(6, 2, 0).label(7, 1, 0).label(8, 1, 0).function(6, 0, [0; 6]);
+        w.variable(2, 0, 255).variable(3, 0, 255).variable(4, 0, 255);
+        w.make_function(0, 2, 6, 7).property(2, 3, 8).new_object(0, 3, 2, 4, 5, [0; 6]);
+        let table = rows(e, &w);
+        assert_eq!(table[e.p(5)], row(&[1, 5, 7, 8]));
+        assert_eq!((table[e.s(3)], table[e.s(4)], table[e.h(6, 3)]), (row(&[5]), row(&[5]), row(&[7])));
+        // A callee that is no function still gives its property 3 to the chain, but is not called.
+        let mut w = Writer::new();
+        w.label(5, 1, 0).label(7, 1, 0).variable(2, 0, 255).variable(4, 0, 255).held(2, 7);
+        w.property(7, 3, 4).new_object(0, 0, 2, 4, 5, [2; 6]);
+        assert_eq!(rows(e, &w)[e.p(5)], row(&[1, 4, 5]));
+    }
 }
 
 /// A mask holds for earlier keys too; stores leave built-in objects alone; names are pairs of the global object.
@@ -157,7 +204,9 @@ fn masks_built_ins_and_named_variables() {
     let mut w = Writer::new();
     w.label(5, 1, 0).label(6, 1, 1).label(7, 1, 0).variable(2, 0, 255).variable(3, 0, 9).variable(4, 0, 9);
     w.held(2, 5).held(2, 6).held(3, 7).store(0, 2, 133, 3).name(11, 33).name(12, 1);
-    let table = answer(&w.bytes).table;
-    assert_eq!((table[h(5, 11)], table[h(5, 12)], table[h(6, 11)]), (bit(7), 0, 0));
-    assert_eq!((table[s(3)], table[s(4)], table[h(0, 9)]), (bit(7), bit(7), bit(7)));
+    for e in Edition::BOTH {
+        let rows = rows(e, &w);
+        assert_eq!((rows[e.h(5, 11)], rows[e.h(5, 12)], rows[e.h(6, 11)]), (row(&[7]), row(&[]), row(&[])));
+        assert_eq!((rows[e.s(3)], rows[e.s(4)], rows[e.h(0, 9)]), (row(&[7]), row(&[7]), row(&[7])));
+    }
 }

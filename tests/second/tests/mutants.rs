@@ -1,10 +1,11 @@
 //! Shows that walks notice a rule left out: tables of a program that lacks something, walked over the whole program.
 
-use second::generate::{random, rounds, structured, Named};
+use second::generate::{random_in, rounds_in, structured_in};
 use second::machine::walk;
 use second::program::{Program, Record, Type};
-use second::reader::read;
+use second::reader::read_in;
 use second::solver::solve;
+use second::Edition;
 
 type Change = fn(&mut Program);
 
@@ -86,15 +87,14 @@ const CHANGES: [(&str, Change); 32] = [
 ];
 
 /// Where the first walk that leaves the table was found.
-fn noticed(change: Change) -> Option<String> {
-    let makers: [fn(u64) -> Named; 3] = [structured, rounds, random];
+fn noticed(edition: Edition, change: Change) -> Option<String> {
     for seed in 0..600 {
-        for make in makers {
-            let (name, file) = make(seed);
+        for make in [structured_in, rounds_in, random_in] {
+            let (name, file) = make(edition, seed);
             if file.len() > 6000 {
                 continue;
             }
-            let program = read(&file).expect("readable");
+            let program = read_in(edition, &file).expect("readable");
             let mut changed = program.clone();
             change(&mut changed);
             let table = solve(&changed).table;
@@ -108,9 +108,11 @@ fn noticed(change: Change) -> Option<String> {
 
 #[test]
 fn every_lost_rule_is_noticed() {
-    for (title, change) in CHANGES {
-        let found = noticed(change);
-        println!("{title}: {found:?}");
-        assert!(found.is_some(), "{title}");
+    for edition in Edition::BOTH {
+        for (title, change) in CHANGES {
+            let found = noticed(edition, change);
+            println!("{edition:?} {title}: {found:?}");
+            assert!(found.is_some(), "{edition:?} {title}");
+        }
     }
 }

@@ -1,12 +1,20 @@
-//! The refusals of the reader: their order inside a record, their positions, and what earlier records declare.
+//! The refusals of the reader in both editions: their order inside a record, their positions, and what earlier records declare.
 
 use second::generate::writer::Writer;
-use second::generate::{edges, sizes};
-use second::reader::read;
+use second::generate::{edges_in, sizes_in};
+use second::reader::read_in;
+use second::Edition;
 
-/// Number and position, or (0, 0) for a readable file.
+/// Number and position in the edition, or (0, 0) for a readable file.
+fn outcome_in(edition: Edition, bytes: &[u8]) -> (u8, usize) {
+    read_in(edition, bytes).err().map_or((0, 0), |r| (r.number, r.position))
+}
+
+/// The same for a file that both editions refuse alike.
 fn outcome(bytes: &[u8]) -> (u8, usize) {
-    read(bytes).err().map_or((0, 0), |r| (r.number, r.position))
+    let outcome = outcome_in(Edition::Small, bytes);
+    assert_eq!(outcome, outcome_in(Edition::Large, bytes), "{bytes:?}");
+    outcome
 }
 
 fn after(head: &Writer, record: &[u8]) -> u8 {
@@ -43,7 +51,7 @@ fn unknown_kinds_and_short_records() {
 fn bytes_from_the_left() {
     let h = head();
     let list: [(&[u8], u8); 24] = [
-        (&[2, 64, 4, 2], 4),
+        (&[2, 4, 4, 2], 4),
         (&[2, 8, 4, 2], 5),
         (&[2, 8, 1, 2], 5),
         (&[2, 5, 1, 2], 5),
@@ -70,6 +78,26 @@ fn bytes_from_the_left() {
     ];
     for (record, number) in list {
         assert_eq!(after(&h, record), number, "{record:?}");
+    }
+}
+
+/// Labels from 64 up are bad in the small edition only, wherever they stand.
+#[test]
+fn labels_of_the_large_edition() {
+    let list: [(&[u8], u8); 9] = [
+        (&[2, 64, 4, 2], 5),
+        (&[2, 64, 1, 1], 0),
+        (&[2, 200, 1, 0, 2, 200, 1, 0], 6),
+        (&[2, 255, 2, 0], 7),
+        (&[2, 255, 2, 0, 4, 255, 0, 0, 0, 0, 0, 0, 0], 0),
+        (&[2, 255, 2, 0, 4, 255, 0, 0, 0, 0, 0, 0, 0, 5, 9, 255, 255, 23, 255, 9, 3, 255], 0),
+        (&[2, 255, 2, 0, 4, 255, 0, 0, 0, 0, 0, 0, 0, 4, 255, 0, 0, 0, 0, 0, 0, 0], 6),
+        (&[2, 254, 1, 0, 7, 254, 31, 253], 4),
+        (&[2, 254, 1, 0, 7, 254, 31, 254, 19, 0, 0, 254, 17, 0, 0, 0, 135, 254], 0),
+    ];
+    for (file, number) in list {
+        assert_eq!(outcome_in(Edition::Large, file).0, number, "{file:?}");
+        assert_eq!(outcome_in(Edition::Small, file), (4, 0), "{file:?}");
     }
 }
 
@@ -150,21 +178,27 @@ fn seven_comes_last() {
 
 #[test]
 fn every_edge_and_size() {
+    for edition in Edition::BOTH {
+        edges_and_sizes(edition);
+    }
+}
+
+fn edges_and_sizes(edition: Edition) {
     let mut counts = [0usize; 10];
-    for (name, bytes) in edges() {
-        let (number, position) = outcome(&bytes);
+    for (name, bytes) in edges_in(edition) {
+        let (number, position) = outcome_in(edition, &bytes);
         assert!(number < 8 && position <= bytes.len(), "{name}");
         counts[number as usize] += 1;
     }
-    println!("edges by refusal number: {counts:?}");
+    println!("{edition:?}: edges by refusal number {counts:?}");
     assert!((0..8).all(|number| counts[number] > 0));
-    for (name, bytes) in sizes() {
+    for (name, bytes) in sizes_in(edition) {
         let expected = match &name {
             _ if bytes.len() > 32_768 => (9, 0),
             _ if name.ends_with("zeros") => (1, 0),
             _ if name.ends_with("forbids") && bytes.len() % 2 == 1 => (2, bytes.len() - 1),
             _ => (0, 0),
         };
-        assert_eq!(outcome(&bytes), expected, "{name}");
+        assert_eq!(outcome_in(edition, &bytes), expected, "{edition:?} {name}");
     }
 }

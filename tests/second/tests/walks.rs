@@ -1,18 +1,19 @@
-//! Walks of the handset machine over generated files: no value outside the table, nothing forbidden in the bag.
+//! Walks of the handset machine over generated files of both editions: no value outside the table, nothing forbidden in the bag.
 
 use second::generate::writer::Writer;
-use second::generate::{random, rounds, structured, Named};
+use second::generate::{random_in, rounds_in, structured, structured_in, Named};
 use second::machine::{walk, witnessed, Stats};
-use second::reader::read;
-use second::rows::s;
+use second::reader::{read, read_in};
+use second::row::Row;
 use second::solver::solve;
+use second::Edition;
 
-fn walk_all(title: &str, make: fn(u64) -> Named, seeds: u64, steps: usize) {
+fn walk_all(edition: Edition, title: &str, make: fn(Edition, u64) -> Named, seeds: u64, steps: usize) {
     let mut sum = Stats::default();
     let (mut facts, mut witnessed) = (0u64, 0u64);
     for seed in 0..seeds {
-        let (name, file) = make(seed);
-        let program = read(&file).expect("readable");
+        let (name, file) = make(edition, seed);
+        let program = read_in(edition, &file).expect("readable");
         let answer = solve(&program);
         for round in 0..2 {
             let stats =
@@ -33,33 +34,38 @@ fn walk_all(title: &str, make: fn(u64) -> Named, seeds: u64, steps: usize) {
             witnessed += stats.witnessed as u64;
         }
     }
-    println!("{title}: {witnessed} of {facts} facts witnessed; {sum:?}");
+    println!("{edition:?} {title}: {witnessed} of {facts} facts witnessed; {sum:?}");
     let least = [sum.calls, sum.news, sum.returns, sum.throws, sum.handed, sum.catches, sum.stores, sum.found];
     assert!(least.iter().all(|&count| count > 100), "{title}");
 }
 
 #[test]
 fn random_files() {
-    walk_all("random", random, 300, 1500);
+    walk_all(Edition::Small, "random", random_in, 300, 1500);
+    walk_all(Edition::Large, "random", random_in, 150, 1500);
 }
 
 #[test]
 fn structured_files() {
-    walk_all("structured", structured, 600, 2000);
+    walk_all(Edition::Small, "structured", structured_in, 600, 2000);
+    walk_all(Edition::Large, "structured", structured_in, 300, 2000);
 }
 
 #[test]
 fn rounds_files() {
-    walk_all("rounds", rounds, 160, 2000);
+    walk_all(Edition::Small, "rounds", rounds_in, 160, 2000);
+    walk_all(Edition::Large, "rounds", rounds_in, 100, 2000);
 }
 
 /// Many more files and steps; run with --ignored.
 #[test]
 #[ignore]
 fn long_walks() {
-    walk_all("random", random, 6_000, 4000);
-    walk_all("structured", structured, 20_000, 4000);
-    walk_all("rounds", rounds, 4_000, 4000);
+    for edition in Edition::BOTH {
+        walk_all(edition, "random", random_in, 6_000, 4000);
+        walk_all(edition, "structured", structured_in, 20_000, 4000);
+        walk_all(edition, "rounds", rounds_in, 4_000, 4000);
+    }
 }
 
 /// The walker does reach what leaks: files 5 and 8 of the list put the forbidden object in the bag.
@@ -70,12 +76,13 @@ fn leaks_are_reached() {
     let mut eight = five.clone();
     five.grant(2);
     eight.label(6, 2, 0).variable(3, 0, 255).function(6, 0, [0; 6]).held(3, 6).grant(3).give_back(6, 2);
-    for file in [five.bytes, eight.bytes] {
-        let program = read(&file).expect("readable");
+    for (file, e) in [five.bytes, eight.bytes].iter().flat_map(|file| Edition::BOTH.map(|e| (file, e))) {
+        let program = read_in(e, file).expect("readable");
         let table = solve(&program).table;
         let seen = witnessed(&program, &table, 0..5, 3000).expect("within the table");
-        assert_eq!(seen[s(1)], table[s(1)]);
-        assert!(seen[s(1)] >> 5 & 1 == 1);
+        assert_eq!(seen.len(), e.table_words());
+        assert_eq!(e.row(&seen, e.s(1)), e.row(&table, e.s(1)));
+        assert!(e.row(&seen, e.s(1)).has(5));
     }
 }
 
@@ -88,13 +95,18 @@ fn walks_repeat() {
     assert_eq!(once, walk(&program, &table, 9, 2000).map(|stats| format!("{stats:?}")));
 }
 
-/// A walk notices a table from which a needed fact is missing: S(1) of file 5 without label 5.
+/// A walk notices a table from which a needed fact is missing: S(1) of file 5 without its label.
 #[test]
 fn a_wrong_table_is_noticed() {
-    let mut w = Writer::new();
-    w.label(5, 1, 0).forbid(5).variable(2, 0, 255).held(2, 5).grant(2);
-    let program = read(&w.bytes).expect("readable");
-    let mut table = solve(&program).table;
-    table[s(1)] &= !(1 << 5);
-    assert!((0..5).any(|seed| walk(&program, &table, seed, 500).is_err()));
+    for (e, l) in
+        [(Edition::Small, 5), (Edition::Small, 63), (Edition::Large, 5), (Edition::Large, 64), (Edition::Large, 255)]
+    {
+        let mut w = Writer::new();
+        w.label(l, 1, 0).forbid(l).variable(2, 0, 255).held(2, l).grant(2);
+        let program = read_in(e, &w.bytes).expect("readable");
+        let mut table = solve(&program).table;
+        let rest = e.row(&table, e.s(1)) & !Row::of(l);
+        e.put(&mut table, e.s(1), rest);
+        assert!((0..5).any(|seed| walk(&program, &table, seed, 500).is_err()));
+    }
 }

@@ -1,30 +1,27 @@
-//! Generator (d): damaged files, every byte value in every field of every kind, and files about the greatest size.
+//! Generator (d), first part: readable files of the other generators, damaged.
 
-use super::writer::Writer;
-use super::{random, rounds, structured, Named};
+use super::edges::{border_bytes, KINDS};
+use super::{random_in, rounds_in, structured_in, title, Named};
+use crate::edition::Edition;
 use crate::prng::Prng;
 use crate::reader::body_length;
 
-const KINDS: [u8; 19] = [1, 2, 3, 4, 5, 6, 7, 8, 16, 17, 18, 19, 20, 21, 22, 23, 24, 25, 26];
-const EDGES: [u8; 26] =
-    [0, 1, 2, 3, 4, 5, 6, 7, 8, 9, 10, 11, 12, 13, 30, 31, 32, 63, 64, 127, 128, 135, 136, 200, 254, 255];
-
 /// Makes a readable file and then changes, cuts, inserts, doubles or swaps some of its bytes.
-pub fn damaged(seed: u64) -> Named {
+pub fn damaged_in(edition: Edition, seed: u64) -> Named {
     let mut r = Prng::new(seed.wrapping_mul(17).wrapping_add(0xD));
     let base = r.next() % 100_000;
     let (name, mut bytes) = match r.below(3) {
-        0 => random(base),
-        1 => structured(base),
-        _ => rounds(base),
+        0 => random_in(edition, base),
+        1 => structured_in(edition, base),
+        _ => rounds_in(edition, base),
     };
     for _ in 0..r.between(1, 3) {
-        damage(&mut r, &mut bytes);
+        damage(edition, &mut r, &mut bytes);
     }
-    (format!("damaged-{seed}-{name}"), bytes)
+    (format!("{}-{name}", title(edition, "damaged", seed)), bytes)
 }
 
-fn damage(r: &mut Prng, bytes: &mut Vec<u8>) {
+fn damage(edition: Edition, r: &mut Prng, bytes: &mut Vec<u8>) {
     let starts = record_starts(bytes);
     if bytes.is_empty() || starts.is_empty() {
         bytes.push(r.byte());
@@ -34,7 +31,7 @@ fn damage(r: &mut Prng, bytes: &mut Vec<u8>) {
     let start = r.pick(&starts);
     match r.below(8) {
         0 => bytes[at] = r.byte(),
-        1 => bytes[at] = r.pick(&EDGES),
+        1 => bytes[at] = r.pick(border_bytes(edition)),
         2 => bytes.truncate(at),
         3 => bytes.insert(at, r.byte()),
         4 => drop(bytes.remove(at)),
@@ -62,109 +59,4 @@ fn record_starts(bytes: &[u8]) -> Vec<usize> {
         at += 1 + length;
     }
     starts
-}
-
-/// Declarations that every good record of `good` finds: labels 5 to 12, variables 2 to 6, function records 6 and 9.
-fn preface() -> Writer {
-    let mut w = Writer::new();
-    w.label(5, 1, 0).label(6, 2, 0).label(7, 3, 0).label(8, 1, 1).label(9, 2, 1).label(10, 3, 1).label(12, 2, 0);
-    w.variable(2, 0, 255).variable(3, 0, 4).variable(4, 6, 255).variable(5, 0, 31).variable(6, 9, 255);
-    w.name(9, 3).function(6, 4, [4, 0, 2, 3, 0, 0]).function(9, 0, [0; 6]);
-    w
-}
-
-/// A good record of the kind, after the preface.
-fn good(kind: u8) -> Vec<u8> {
-    let body: &[u8] = match kind {
-        1 => &[10, 129],
-        2 => &[11, 1, 1],
-        3 => &[5],
-        4 => &[12, 2, 3, 4, 5, 6, 0, 0],
-        5 => &[7, 0, 6],
-        6 => &[2],
-        7 => &[5, 1, 7],
-        8 => &[3, 6],
-        16 => &[6, 4, 2],
-        17 => &[0, 3, 4, 129, 8],
-        18 => &[9, 2, 31, 6],
-        19 => &[0, 2, 7],
-        20 => &[6, 5, 9, 5],
-        21 => &[0, 2, 3, 4, 5, 6, 0, 2, 3, 4],
-        22 => &[6, 0, 3, 4, 5, 6, 0, 2, 3, 4, 5],
-        23 => &[6, 4],
-        24 => &[0, 2],
-        25 => &[9, 6],
-        _ => &[6, 4],
-    };
-    [&[kind], body].concat()
-}
-
-fn between(record: &[u8], with_function: bool) -> Vec<u8> {
-    let mut w = preface();
-    w.put(record);
-    if with_function && record[0] != 4 {
-        w.function(12, 0, [0; 6]);
-    }
-    w.bytes
-}
-
-/// Makes every file of a good preface and one record of any kind with one field set to any of the 256 bytes, cut anywhere.
-pub fn edges() -> Vec<Named> {
-    let mut files = Vec::new();
-    for kind in 0..=255 {
-        files.push((format!("edge-kind-{kind}"), between(&[kind], false)));
-    }
-    for kind in KINDS {
-        let record = good(kind);
-        files.push((format!("edge-{kind}-due"), between(&record, false)));
-        for field in 1..record.len() {
-            files.push((format!("edge-{kind}-cut-{field}"), between(&record[..field], false)));
-            for value in 0..=255 {
-                let mut record = record.clone();
-                record[field] = value;
-                files.push((format!("edge-{kind}-{field}-{value}"), between(&record, true)));
-            }
-        }
-    }
-    files
-}
-
-/// Makes a good preface and one to three records of any kind with some fields set to edge values, at times cut short.
-pub fn edge_mix(seed: u64) -> Named {
-    let mut r = Prng::new(seed.wrapping_mul(19).wrapping_add(0xE));
-    let mut w = if r.chance(1, 20) { Writer::new() } else { preface() };
-    for _ in 0..r.between(1, 3) {
-        let mut record = good(r.pick(&KINDS));
-        for _ in 0..r.below(4) {
-            let field = r.below(record.len());
-            if field > 0 || r.chance(1, 10) {
-                record[field] = r.pick(&EDGES);
-            }
-        }
-        w.put(&record);
-    }
-    if r.chance(1, 2) {
-        w.function(12, 0, [0; 6]);
-    }
-    if r.chance(1, 10) {
-        let shorter = w.bytes.len() - r.below(9).min(w.bytes.len());
-        w.bytes.truncate(shorter);
-    }
-    (format!("edge-mix-{seed}"), w.bytes)
-}
-
-/// Makes files of 32,767 to 32,769 bytes and more: readable ones, bad ones, and random ones filled up.
-pub fn sizes() -> Vec<Named> {
-    let mut files = Vec::new();
-    for length in [32_766, 32_767, 32_768, 32_769, 32_770, 40_000, 65_536] {
-        let mut filled = Writer::new();
-        filled.fill(length);
-        files.push((format!("size-{length}-filled"), filled.bytes));
-        files.push((format!("size-{length}-zeros"), vec![0; length]));
-        files.push((format!("size-{length}-forbids"), [3, 3].repeat(length.div_ceil(2))[..length].to_vec()));
-        let mut good = preface();
-        good.function(12, 0, [0; 6]).grant(2).fill(length);
-        files.push((format!("size-{length}-good"), good.bytes));
-    }
-    files
 }

@@ -1,55 +1,86 @@
 //! Generator (e): files of exactly 32,768 bytes that use every label and variable, for the greatest work.
 
 use super::writer::Writer;
-use super::Named;
+use super::{title, Named};
+use crate::edition::Edition;
 use crate::prng::Prng;
 
-/// Makes a full file of one kind of statement (or all kinds) over all 59 labels and 254 variables, few or all of them granted.
-pub fn dense(seed: u64) -> Named {
+/// Plain labels, functions and arrays, each a run of labels of the edition.
+struct Labels {
+    first_function: u8,
+    first_array: u8,
+    last: u8,
+}
+
+impl Labels {
+    fn of(edition: Edition) -> Labels {
+        match edition {
+            Edition::Small => Labels { first_function: 30, first_array: 55, last: 63 },
+            Edition::Large => Labels { first_function: 105, first_array: 205, last: 255 },
+        }
+    }
+
+    fn kind(&self, l: u8) -> u8 {
+        if l < self.first_function {
+            1
+        } else if l < self.first_array {
+            2
+        } else {
+            3
+        }
+    }
+
+    fn some_plain(&self, r: &mut Prng) -> u8 {
+        r.between(5, self.first_function as usize - 1) as u8
+    }
+
+    fn some_function(&self, r: &mut Prng) -> u8 {
+        r.between(self.first_function as usize, self.first_array as usize - 1) as u8
+    }
+
+    /// An array label for each plain one.
+    fn array(&self, plain: u8) -> u8 {
+        self.first_array + plain % (self.last - self.first_array + 1)
+    }
+}
+
+/// Makes a full file of one kind of statement (or all kinds) over all labels and all 254 variables, few or all of them granted.
+pub fn dense_in(edition: Edition, seed: u64) -> Named {
     let mut r = Prng::new(seed.wrapping_mul(23).wrapping_add(0xF));
     let mut w = Writer::new();
-    // Labels 5 to 29 plain, 30 to 54 functions, 55 to 63 arrays; the last variables belong to functions.
-    for l in 5..=63 {
-        w.label(
-            l,
-            if l < 30 {
-                1
-            } else if l < 55 {
-                2
-            } else {
-                3
-            },
-            0,
-        );
+    let all = Labels::of(edition);
+    for l in edition.declarable() {
+        w.label(l, all.kind(l), 0);
     }
     for n in 0..32 {
         w.name(n, r.byte() | 1);
     }
+    // The last variables belong to functions.
     for v in 2..=255 {
-        w.variable(v, if v < 200 { 0 } else { r.between(30, 54) as u8 }, 255);
+        w.variable(v, if v < 200 { 0 } else { all.some_function(&mut r) }, 255);
     }
-    for f in 30..55 {
+    for f in all.first_function..all.first_array {
         w.function(
             f,
             some(&mut r),
             [some(&mut r), some(&mut r), some(&mut r), some(&mut r), some(&mut r), some(&mut r)],
         );
     }
-    for l in 5..=63 {
+    for l in edition.declarable() {
         w.held(r.between(2, 199) as u8, l);
     }
     for _ in 0..r.pick(&[0, 1, 1, 200]) {
         w.grant(r.between(2, 199) as u8);
     }
-    w.forbid(r.between(5, 63) as u8);
+    w.forbid(r.between(5, all.last as usize) as u8);
     let only = r.pick(&[16, 17, 18, 21, 22, 26, 0, 0]);
     let key = r.pick(&[128, 128, 255]);
     while w.bytes.len() + 18 <= 32_768 {
         let kind = if only != 0 && r.chance(9, 10) { only } else { r.between(16, 26) as u8 };
-        statement(&mut r, &mut w, kind, key);
+        statement(&all, &mut r, &mut w, kind, key);
     }
     w.fill(32_768);
-    (format!("dense-{seed}-{only}-{key}"), w.bytes)
+    (format!("{}-{only}-{key}", title(edition, "dense", seed)), w.bytes)
 }
 
 /// Any declared variable.
@@ -57,19 +88,19 @@ fn some(r: &mut Prng) -> u8 {
     r.between(2, 255) as u8
 }
 
-fn statement(r: &mut Prng, w: &mut Writer, kind: u8, key: u8) {
-    let k = if r.chance(1, 3) { 0 } else { r.between(30, 54) as u8 };
+fn statement(all: &Labels, r: &mut Prng, w: &mut Writer, kind: u8, key: u8) {
+    let k = if r.chance(1, 3) { 0 } else { all.some_function(r) };
     let some_key = if r.chance(1, 2) { r.below(32) } else { r.between(129, 135) } as u8;
     let key = if key == 255 { some_key } else { key };
     let (a, b, c) = (some(r), some(r), some(r));
-    let plain = r.between(5, 29) as u8;
-    let function = r.between(30, 54) as u8;
+    let plain = all.some_plain(r);
+    let function = all.some_function(r);
     let args = [some(r), some(r), some(r), some(r), some(r), some(r)];
     match kind {
         16 => w.copy(k, a, b),
         17 => w.load(k, a, b, key, plain),
         18 => w.store(k, a, key, b),
-        19 => w.make(k, a, r.pick(&[plain, 55 + plain % 9])),
+        19 => w.make(k, a, r.pick(&[plain, all.array(plain)])),
         20 => w.make_function(k, a, function, plain),
         21 => w.call(k, a, b, c, args),
         22 => w.new_object(k, a, b, c, plain, args),

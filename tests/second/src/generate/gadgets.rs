@@ -2,10 +2,11 @@
 
 use super::kit::Kit;
 use super::{call_gadgets as calls, object_gadgets as objects};
+use crate::edition::Edition;
 
 pub type Gadget = (&'static str, fn(&mut Kit));
 
-pub const GADGETS: [Gadget; 15] = [
+const GADGETS: [Gadget; 17] = [
     ("closure", calls::closure),
     ("membrane", calls::membrane),
     ("prototypes", objects::prototypes),
@@ -21,4 +22,14 @@ pub const GADGETS: [Gadget; 15] = [
     ("primitive", objects::primitive),
     ("recursion", calls::recursion),
     ("arguments", calls::arguments),
+    ("sites", objects::sites),
+    ("sites", objects::sites),
 ];
+
+/// The pieces of the edition: the small one has no room for the many labels of `sites`.
+pub fn gadgets(edition: Edition) -> &'static [Gadget] {
+    match edition {
+        Edition::Small => &GADGETS[..15],
+        Edition::Large => &GADGETS,
+    }
+}

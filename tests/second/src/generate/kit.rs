@@ -1,6 +1,7 @@
 //! The parts structured files are built from: fresh labels, variables and functions, secrets and what is exposed.
 
 use super::writer::Writer;
+use crate::edition::Edition;
 use crate::prng::Prng;
 
 /// A declared function with its own variables.
@@ -13,10 +14,11 @@ pub struct Fun {
 
 /// Declarations go to `head`; all other records to `body`, whose order `finish` chooses.
 pub struct Kit {
+    edition: Edition,
     pub r: Prng,
     head: Writer,
     body: Vec<Vec<u8>>,
-    next_label: u8,
+    next_label: usize,
     next_variable: u8,
     next_name: u8,
     masked: u32,
@@ -29,9 +31,10 @@ pub struct Kit {
 }
 
 impl Kit {
-    pub fn new(mut r: Prng) -> Kit {
+    pub fn new(edition: Edition, mut r: Prng) -> Kit {
         let careless = r.pick(&[0, 0, 3, 10, 40]);
         let mut kit = Kit {
+            edition,
             r,
             head: Writer::new(),
             body: Vec::new(),
@@ -55,7 +58,12 @@ impl Kit {
 
     /// True while a gadget of at most 14 labels and 40 variables still fits.
     pub fn has_room(&self) -> bool {
-        self.next_label <= 63 - 14 && self.next_variable <= 255 - 40
+        self.labels_left() > 14 && self.next_variable <= 255 - 40
+    }
+
+    /// How many labels are not yet declared.
+    pub fn labels_left(&self) -> usize {
+        self.edition.labels() - self.next_label
     }
 
     pub fn say(&mut self, write: impl FnOnce(&mut Writer) -> &mut Writer) {
@@ -65,7 +73,7 @@ impl Kit {
     }
 
     pub fn label(&mut self, kind: u8, flag: u8) -> u8 {
-        let l = self.next_label;
+        let l = self.next_label as u8;
         self.next_label += 1;
         self.head.label(l, kind, flag);
         l

@@ -107,3 +107,29 @@ pub fn primitive(kit: &mut Kit) {
     kit.say(|w| w.load(0, out, object, n, wrap));
     kit.expose(out);
 }
+
+/// Ten to a hundred allocation sites: some objects that a function makes and gives back, some that hang on one another, and some
+/// forbidden ones that stay with the host.
+pub fn sites(kit: &mut Kit) {
+    let f = kit.fun(1);
+    let (fv, made, kept) = (kit.hold_function(f), kit.var(f.l), kit.top());
+    let n = kit.name();
+    let count = kit.r.between(10, 100).min(kit.labels_left());
+    let mut before = None;
+    for _ in 0..count {
+        let (kind, flag) = (kit.r.pick(&[1, 1, 3]), kit.r.chance(1, 10) as u8);
+        let l = kit.label(kind, flag);
+        match (kit.r.below(3), before) {
+            (1, _) => {
+                kit.say(|w| w.held(kept, l).forbid(l));
+                continue;
+            }
+            (0, Some(other)) => kit.say(|w| w.property(other, n, l)),
+            _ => kit.say(|w| w.make(f.l, made, l).store(f.l, f.formals[0], n, made)),
+        }
+        before = Some(l);
+    }
+    let given = if kit.slips() { kept } else { made };
+    kit.say(|w| w.store(f.l, kept, n, made).give_back(f.l, given));
+    kit.expose(fv);
+}

@@ -2,21 +2,23 @@
 
 use super::halves::{Half, Plan, State};
 use super::writer::Writer;
-use super::Named;
+use super::{title, Named};
+use crate::edition::Edition;
 use crate::prng::Prng;
+use std::ops::RangeInclusive;
 
 /// Makes a random readable file: records of all kinds over what was declared before, guarded or not.
-pub fn random(seed: u64) -> Named {
+pub fn random_in(edition: Edition, seed: u64) -> Named {
     let mut r = Prng::new(seed.wrapping_mul(7).wrapping_add(0xA));
-    let plan = plan(&mut r);
+    let plan = plan(edition, &mut r);
     let mut state = State {
         w: Writer::new(),
         plan,
         halves: [Half::default(), Half::default()],
         side: 0,
-        free_labels: shuffled(&mut r, 5, 63),
-        free_variables: shuffled(&mut r, 2, 255),
-        free_names: shuffled(&mut r, 0, 31),
+        free_labels: shuffled(&mut r, edition.declarable()),
+        free_variables: shuffled(&mut r, 2..=255),
+        free_names: shuffled(&mut r, 0..=31),
         unwritten: Vec::new(),
         r,
     };
@@ -30,10 +32,10 @@ pub fn random(seed: u64) -> Named {
     }
     let target = state.plan.target;
     state.w.fill(target);
-    (format!("random-{seed}"), state.w.bytes)
+    (title(edition, "random", seed), state.w.bytes)
 }
 
-fn plan(r: &mut Prng) -> Plan {
+fn plan(edition: Edition, r: &mut Prng) -> Plan {
     let target = match r.below(20) {
         0 => 32_768,
         1 => r.between(8_000, 32_768),
@@ -42,9 +44,12 @@ fn plan(r: &mut Prng) -> Plan {
         _ => r.between(0, 200),
     };
     let room = (target / 30).max(2);
+    let most = room.min(edition.declarable().len());
+    // Half of the files of the large edition have as many labels as there is room for.
+    let fewest = if edition == Edition::Large && r.chance(1, 2) { most } else { 1 };
     Plan {
         target,
-        labels: r.between(1, room.min(59)),
+        labels: r.between(fewest, most),
         variables: r.between(1, (2 * room).min(254)),
         grants: r.pick(&[0, 1, 2, 3, 20]),
         forbids: r.pick(&[1, 1, 2, 5, 20]),
@@ -54,8 +59,8 @@ fn plan(r: &mut Prng) -> Plan {
     }
 }
 
-fn shuffled(r: &mut Prng, low: u8, high: u8) -> Vec<u8> {
-    let mut all: Vec<u8> = (low..=high).collect();
+fn shuffled(r: &mut Prng, numbers: RangeInclusive<u8>) -> Vec<u8> {
+    let mut all: Vec<u8> = numbers.collect();
     r.shuffle(&mut all);
     all
 }
@@ -72,8 +77,8 @@ impl State {
     /// Writes a declaring record if the plan has one left.
     fn declare(&mut self) -> bool {
         match self.r.below(12) {
-            0 | 1 | 2 if 59 - self.free_labels.len() < self.plan.labels => self.label(),
-            3..=6 if 254 - self.free_variables.len() < self.plan.variables => self.variable(),
+            0 | 1 | 2 if self.plan.labels > 0 => self.label(),
+            3..=6 if self.plan.variables > 0 => self.variable(),
             7 if !self.free_names.is_empty() && self.r.chance(1, 2) => {
                 let n = self.free_names.pop().unwrap_or(0);
                 let mask = 1 | self.r.byte() & self.r.byte();
@@ -105,6 +110,7 @@ impl State {
     }
 
     fn label(&mut self) {
+        self.plan.labels -= 1;
         let l = self.free_labels.pop().unwrap_or(5);
         let kind = self.r.pick(&[1, 1, 2, 2, 3]);
         let flag = self.r.chance(1, 8) as u8;
@@ -121,6 +127,7 @@ impl State {
     }
 
     fn variable(&mut self) {
+        self.plan.variables -= 1;
         let v = self.free_variables.pop().unwrap_or(2);
         let owner = self.scope();
         let mut name = 255;

@@ -4,7 +4,7 @@ use super::state::{State, Value};
 use super::Stats;
 use crate::prng::Prng;
 use crate::program::{Program, Record, Type, GUEST};
-use crate::rows::ROWS;
+use crate::row::Row;
 use std::collections::BTreeMap;
 
 impl<'a> State<'a> {
@@ -15,11 +15,11 @@ impl<'a> State<'a> {
             r,
             objects: Vec::new(),
             frames: Vec::new(),
-            by_scope: vec![Vec::new(); 64],
+            by_scope: vec![Vec::new(); program.edition.labels()],
             bag: Vec::new(),
             foreign: Vec::new(),
-            first: [None; 64],
-            seen: vec![0; ROWS],
+            first: vec![None; program.edition.labels()],
+            seen: vec![Row::EMPTY; program.edition.rows()],
             stats: Stats::default(),
         };
         state.add_frame(0, None, None);

@@ -3,7 +3,7 @@
 use super::Stats;
 use crate::prng::Prng;
 use crate::program::{Program, BAG, GUEST};
-use crate::rows::{bit, h, p, s, t};
+use crate::row::Row;
 use std::collections::BTreeMap;
 
 #[derive(Clone, Copy, PartialEq, Eq, PartialOrd, Ord, Debug)]
@@ -52,8 +52,8 @@ pub struct State<'a> {
     /// Objects in the bag that the guest did not make.
     pub foreign: Vec<usize>,
     /// The one object of labels 0, 1, 2, 4 and of the labels of kinds 7 and 8.
-    pub first: [Option<usize>; 64],
-    pub seen: Vec<u64>,
+    pub first: Vec<Option<usize>>,
+    pub seen: Vec<Row>,
     pub stats: Stats,
 }
 
@@ -65,10 +65,10 @@ impl State<'_> {
 
     /// A value of this label is in this row.
     fn fact(&mut self, row: usize, label: u8) -> Result<(), String> {
-        if self.table[row] & bit(label) == 0 {
+        if !self.program.edition.row(self.table, row).has(label) {
             return Err(format!("row {row} lacks label {label}"));
         }
-        self.seen[row] |= bit(label);
+        self.seen[row] |= Row::of(label);
         Ok(())
     }
 
@@ -84,7 +84,7 @@ impl State<'_> {
         let object = self.objects.len() - 1;
         let mut next = Some(object);
         while let Some(o) = next {
-            self.fact(p(label), self.objects[o].label)?;
+            self.fact(self.program.edition.p(label), self.objects[o].label)?;
             next = self.objects[o].prototype;
         }
         Ok(object)
@@ -125,7 +125,7 @@ impl State<'_> {
         } else {
             self.home(frame, v).and_then(|f| self.frames[f].variables.get(&v).copied()).unwrap_or(Value::Primitive)
         };
-        self.fact_of(s(v), value)?;
+        self.fact_of(self.program.edition.s(v), value)?;
         Ok(value)
     }
 
@@ -147,11 +147,11 @@ impl State<'_> {
             return self.put_in_bag(value);
         }
         if let (Some(n), Some(global)) = (self.name_of(v), self.first[0]) {
-            self.fact_of(s(v), value)?;
+            self.fact_of(self.program.edition.s(v), value)?;
             return self.put(global, (n, 0), value);
         }
         if let Some(home) = self.home(frame, v) {
-            self.fact_of(s(v), value)?;
+            self.fact_of(self.program.edition.s(v), value)?;
             self.frames[home].variables.insert(v, value);
         }
         Ok(())
@@ -159,14 +159,15 @@ impl State<'_> {
 
     /// True where the table says that the guest holds nothing forbidden.
     fn confined(&self) -> bool {
-        self.table[s(BAG)] & self.program.forbidden == 0
+        let e = self.program.edition;
+        (e.row(self.table, e.s(BAG)) & self.program.forbidden).is_empty()
     }
 
     fn put_in_bag(&mut self, value: Value) -> Result<(), String> {
-        self.fact_of(s(BAG), value)?;
+        self.fact_of(self.program.edition.s(BAG), value)?;
         let Value::Object(o) = value else { return Ok(()) };
         let label = self.objects[o].label;
-        if self.confined() && self.program.forbidden & bit(label) != 0 {
+        if self.confined() && self.program.forbidden.has(label) {
             return Err(format!("the guest holds forbidden label {label}"));
         }
         if !self.bag.contains(&o) {
@@ -179,7 +180,7 @@ impl State<'_> {
     }
 
     pub fn put(&mut self, object: usize, pair: Pair, value: Value) -> Result<(), String> {
-        self.fact_of(h(self.objects[object].label, pair.0), value)?;
+        self.fact_of(self.program.edition.h(self.objects[object].label, pair.0), value)?;
         self.objects[object].pairs.insert(pair, value);
         Ok(())
     }
@@ -197,7 +198,7 @@ impl State<'_> {
     }
 
     pub fn add_thrown(&mut self, frame: usize, value: Value) -> Result<(), String> {
-        self.fact_of(t(self.frames[frame].scope), value)?;
+        self.fact_of(self.program.edition.t(self.frames[frame].scope), value)?;
         if !self.frames[frame].thrown.contains(&value) {
             self.frames[frame].thrown.push(value);
         }
@@ -206,27 +207,28 @@ impl State<'_> {
 
     /// Tests the whole state once more, independently of the writes that led to it.
     pub fn survey(&mut self) -> Result<(), String> {
+        let e = self.program.edition;
         let mut facts = Vec::new();
         let label = |value: &Value| match value {
             Value::Primitive => None,
             Value::Object(o) => Some(self.objects[*o].label),
         };
         for object in &self.objects {
-            facts.extend(object.pairs.iter().map(|(pair, value)| (h(object.label, pair.0), label(value))));
+            facts.extend(object.pairs.iter().map(|(pair, value)| (e.h(object.label, pair.0), label(value))));
             let mut next = object.prototype;
             while let Some(o) = next {
-                facts.push((p(object.label), Some(self.objects[o].label)));
+                facts.push((e.p(object.label), Some(self.objects[o].label)));
                 next = self.objects[o].prototype;
             }
         }
         for frame in &self.frames {
-            facts.extend(frame.variables.iter().map(|(v, value)| (s(*v), label(value))));
-            facts.extend(frame.thrown.iter().map(|value| (t(frame.scope), label(value))));
+            facts.extend(frame.variables.iter().map(|(v, value)| (e.s(*v), label(value))));
+            facts.extend(frame.thrown.iter().map(|value| (e.t(frame.scope), label(value))));
         }
-        facts.extend(self.bag.iter().map(|o| (s(BAG), Some(self.objects[*o].label))));
+        facts.extend(self.bag.iter().map(|o| (e.s(BAG), Some(self.objects[*o].label))));
         for (row, label) in facts {
             if let Some(label) = label {
-                if row == s(BAG) && self.confined() && self.program.forbidden & bit(label) != 0 {
+                if row == e.s(BAG) && self.confined() && self.program.forbidden.has(label) {
                     return Err(format!("survey: the guest holds forbidden label {label}"));
                 }
                 self.fact(row, label).map_err(|e| format!("survey: {e}"))?;

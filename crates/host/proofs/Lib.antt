@@ -1,0 +1,2 @@
+-- Laws of the array `host`. Assumes nothing.
+pub mod Rows

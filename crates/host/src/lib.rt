@@ -1,0 +1,38 @@
+// What the engine goes by beside the table, in an array of 16 words: the labels of functions, those of built-in objects, the names of each class.
+ghost use mathlib.Core.Path.{_≡_};
+ghost use Rattle.rows.specs.Row.{Key};
+ghost use Rattle.sets.specs.Value.{value};
+ghost use Rattle.host.specs.Lays.{functionsIn, builtInsIn, namesIn};
+pub mod handed;
+
+use sets::Set;
+
+const BUILT_INS: usize = 4;
+
+const CLASSES: usize = 8;
+
+// The labels of functions.
+pub fn functions(host: &[u64; 16], wide: bool) -> Set
+    ensures { λ r. ⌜ value wide r ≡ functionsIn wide (now (host .entry)) ⌝ }
+{
+    lent::row(host, 0, wide, 0)
+}
+
+// The labels of built-in objects.
+pub fn built_ins(host: &[u64; 16], wide: bool) -> Set
+    ensures { λ r. ⌜ value wide r ≡ builtInsIn wide (now (host .entry)) ⌝ }
+{
+    lent::row(host, BUILT_INS, wide, 0)
+}
+
+// The names of a key, as a word: a name, or 128 + c for all names of class c.
+pub fn names(host: &[u64; 16], key: u8) -> u64
+    requires { ⌜ Key key ⌝ }
+    ensures { λ r. ⌜ r ≡ namesIn (now (host .entry)) key ⌝ }
+{
+    let k = key as usize;
+    if k < 128 {
+        return words::single(k);
+    }
+    host[CLASSES + (k - 128)]
+}

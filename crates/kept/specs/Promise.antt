@@ -1,0 +1,97 @@
+-- What each pair promises. A union: nothing that the table does not tell now, and all that it told when the code last forgot; if nothing was added since, the
+-- two tables are one, and the union is exactly what the table tells. A meet: every row that the labels of the set are to be joined to holds it; rows
+-- only grow, so that this stays so. Assumes nothing.
+use mathlib.Core.Path.{_≡_}
+use mathlib.Core.Logic.{_⊎_}
+use mathlib.Core.List.{List, List·Memᴰ}
+use mathlib.Core.Bool.{Bool, cond}
+use Prim.Native.Nat.{ℕ, _+_, _-_, _*_, _<_}
+use lib.ListN.{getD}
+use lib.Dec.{ltb}
+use Rattle.words.specs.Words.{bit}
+use Rattle.rows.specs.Edition.{labels}
+use Rattle.rows.specs.Row.{number, property, chain, thrown}
+use Rattle.rules.specs.Table.{Table, Has}
+use Rattle.program.specs.Program.{Program, namesOf, returnsOf}
+use Rattle.lent.specs.Table.{tableAt}
+use Rattle.uses.specs.Use.{tableOf, Since}
+use Rattle.uses.specs.Gather.{Gathered}
+use Rattle.kept.specs.Pairs.{pairCount, keptSet, keptWith}
+
+-- what is looked up, and where values are spread
+pub data Slot : Type 0 where
+  chains : Slot  -- the chains of labels
+  throws : Slot  -- what functions throw
+  handed : Slot  -- what functions hand back
+  under : ℕ → Slot  -- the properties of labels under a key
+  input : ℕ → Slot  -- spread: the j-th input of functions, this and six formals
+  stored : ℕ → Slot  -- spread: the properties of labels under a key
+  unused : Slot
+
+-- the slot of a pair: where there is room for 32 pairs only, those of single names other than 1, 2 and 3 are left out
+unfoldable pub slotOf : ℕ → Slot
+slotOf q =
+    cond (ltb q 4) chains
+    (cond (ltb q 5) throws
+    (cond (ltb q 6) handed
+    (cond (ltb q 14) (under (q + 122))
+    (cond (ltb q 17) (under (q - 13))
+    (cond (ltb q 24) (input (q - 17))
+    (cond (ltb q 32) (stored (q + 104))
+    (cond (ltb q 64) (under (q - 32))
+    (cond (ltb q 96) (stored (q - 64))
+    unused))))))))
+
+-- what label l tells in table t
+abbrev pub Tells : Bool → Program → Slot → Table → ℕ → ℕ → Type 0
+Tells wide p chains t l m = Has t (number (labels wide) (chain l)) m
+Tells wide p throws t l m = Has t (number (labels wide) (thrown l)) m
+Tells wide p handed t l m = (x : ℕ) × List·Memᴰ x (returnsOf p l) × Has t x m
+Tells wide p (under key) t l m = (n : ℕ) × List·Memᴰ n (namesOf (p .sheet) key) × Has t (number (labels wide) (property l n)) m
+Tells wide p (input j) t l m = ⊥
+Tells wide p (stored key) t l m = ⊥
+Tells wide p unused t l m = ⊥
+
+-- the rows that values are joined to for label l
+abbrev pub Takes : Bool → Program → Slot → ℕ → ℕ → Type 0
+Takes wide p chains l r = ⊥
+Takes wide p throws l r = ⊥
+Takes wide p handed l r = ⊥
+Takes wide p (under key) l r = ⊥
+Takes wide p (input j) l r = r ≡ getD (p .sheet .formals) (7 * l + j) 0
+Takes wide p (stored key) l r = (n : ℕ) × List·Memᴰ n (namesOf (p .sheet) key) × (r ≡ number (labels wide) (property l n))
+Takes wide p unused l r = ⊥
+
+-- every row that is joined to for a label of s holds v
+abbrev pub Meets : Bool → ℕ → Program → Slot → List ℕ → ℕ → ℕ → Type 0
+Meets wide o p slot t s v = (l r m : ℕ) → bit s l ≡ 1 → Takes wide p slot l r → 0 < r → bit v m ≡ 1 → Has (tableAt wide o t) r m
+
+-- v is the union over s: `old` are the words when the code last forgot, t those now
+abbrev pub Unites : Bool → Program → Slot → List ℕ → List ℕ → ℕ → ℕ → Type 0
+Unites wide p slot old t s v = Gathered (Tells wide p slot) (tableOf wide old) (tableOf wide t) s v
+
+-- the promise of a pair of s and v
+abbrev pub Promise : Bool → ℕ → Program → Slot → List ℕ → List ℕ → ℕ → ℕ → Type 0
+Promise wide o p chains old t s v = Unites wide p chains old t s v
+Promise wide o p throws old t s v = Unites wide p throws old t s v
+Promise wide o p handed old t s v = Unites wide p handed old t s v
+Promise wide o p (under key) old t s v = Unites wide p (under key) old t s v
+Promise wide o p (input j) old t s v = Meets wide o p (input j) t s v
+Promise wide o p (stored key) old t s v = Meets wide o p (stored key) t s v
+Promise wide o p unused old t s v = Unit {0}
+
+-- every pair keeps its promise
+abbrev pub Remembers : Bool → ℕ → Program → List ℕ → List ℕ → List ℕ → Type 0
+Remembers wide o p old t keeps =
+    (q : ℕ) → q < pairCount wide → Promise wide o p (slotOf q) old t (keptSet wide keeps q) (keptWith wide keeps q)
+
+-- what is told for the labels s: nothing that the table does not tell, and all that it told, but for what `have` holds already
+pub record Answer (F : Table → ℕ → ℕ → Type 0) (old t : Table) (s have r : ℕ) : Type 0 where
+  pub source : (m : ℕ) → bit r m ≡ 1 → (l : ℕ) × (bit s l ≡ 1) × F t l m
+  pub all : (l m : ℕ) → bit s l ≡ 1 → F old l m → (bit r m ≡ 1) ⊎ (bit have m ≡ 1)
+
+-- the contract of a function that tells by a pair, and leaves the pairs as good as they were
+abbrev pub Tellings : Bool → Program → Slot → List ℕ → ℕ → ℕ → ℕ → List ℕ → List ℕ → Type 0
+Tellings wide p slot t s have r before after =
+    (o : ℕ) (old : List ℕ) → Since wide old t → Remembers wide o p old t before
+    → Answer (Tells wide p slot) (tableOf wide old) (tableOf wide t) s have r × Remembers wide o p old t after

@@ -1,0 +1,4 @@
+pub mod Use
+pub mod Rows
+pub mod Unions
+pub mod Spreads
