@@ -1,40 +1,38 @@
+-- A store: to the labels that are not built-in. Assumes nothing.
 use borrow.Author.Needs.{needs}
+use Rattle.apply.proofs.Properties.{store-applies}
 use Rattle.apply.proofs.property.store.Statement.{statement}
 use Rattle.apply.proofs.property.store.Tie as tie
-use Rattle.apply.proofs.property.store.Reads as reads
-use Rattle.apply.proofs.property.store.Lts as lts
-use Rattle.host.proofs.built_ins.Reads as built-ins-reads
-use Rattle.sets.proofs.without.Reads as without-reads
-use Rattle.shared.proofs.spread.spread_stored.Reads as spread-stored-reads
-use Rattle.uses.proofs.held.Reads as held-reads
 
--- src/property.rt:54:9
 held-requires : tie.Need-held-requires
 held-requires c κs = search needs
 
--- src/property.rt:55:39
 built-ins-requires : tie.Need-built-ins-requires
 built-ins-requires c κs = search needs
 
--- src/property.rt:55:9
 without-requires : tie.Need-without-requires
 without-requires c κs = search needs
 
--- src/property.rt:56:9
 held-requires-2 : tie.Need-held-requires-2
 held-requires-2 c κs = search needs
 
--- src/property.rt:57:5
 spread-stored-requires : tie.Need-spread-stored-requires
 spread-stored-requires c κs = search needs
 
--- src/property.rt:41:1
 same-length : tie.Need-same-length
 same-length c = search needs
 
--- src/property.rt:41:1
 returns : tie.Need-returns
-returns c = ?
+returns c = 
+    let spread = c .before .before in
+    let value = spread .before .before .before in
+    let without = value .before .before in
+    let fixed = without .before in
+    let held = fixed .before in
+    let start = held .before .before .before in
+    let a = start .args in
+    λ p lays. store-applies (a .x .0) (a .a .0) (a .key) (start .pre .0 .apart) lays (held .held .ensures) (fixed .built-ins .ensures) (without .without .ensures)
+    (value .held2 .ensures) (spread .spread-stored .ensures p lays)
 
 pub store-spec : {M : Type 1} → statement M
 store-spec =
