@@ -1,9 +1,11 @@
 -- A use that goes through a set that was told: chains first, then what is found on them. Assumes nothing.
-use mathlib.Core.Path.{_≡_, refl}
+use mathlib.Core.Path.{_≡_, refl, sym, _∙_}
 use mathlib.Core.Logic.{_⊎_, inl, inr}
 use mathlib.Core.Bool.{Bool, true, false}
 use mathlib.Core.List.{List}
 use Prim.Native.Nat.{ℕ}
+use lib.Dec.{eqb}
+use borrow.Author.Tests.{eqb-true}
 use Rattle.words.proofs.Bits.{On, empty-off}
 use Rattle.rules.specs.Table.{Table, Within}
 use Rattle.rules.specs.Rule.{Rule, when}
@@ -15,7 +17,7 @@ use Rattle.kept.specs.Promise.{Slot, Tells, Answer, Tellings}
 use Rattle.shared.specs.Apply.{Applies}
 
 -- nothing was held already
-told-all : {F : Table → ℕ → ℕ → Type 0} {old t : Table} {s r : ℕ} → Answer F old t s 0 r → (l m : ℕ) → On s l → F old l m → On r m
+pub told-all : {F : Table → ℕ → ℕ → Type 0} {old t : Table} {s r : ℕ} → Answer F old t s 0 r → (l m : ℕ) → On s l → F old l m → On r m
 told-all {F} {old} {t} {s} {r} a l m h i = go (a .all l m h i)
   where
     go : On r m ⊎ On 0 m → On r m
@@ -44,3 +46,11 @@ told-when L t p b r l e h = rw e h
 pub when-told : (L : ℕ) (t : Table) (p : Rule) (b : Bool) (r l : ℕ) → Told L t (when b p) r l → (b ≡ true) × Told L t p r l
 when-told L t p true r l h = (refl, h)
 when-told L t p false r l h = absurd h
+
+-- ---- what a test for an empty set says
+
+pub is-none : (v : ℕ) {b : Bool} → b ≡ eqb v 0 → b ≡ true → v ≡ 0
+is-none v e h = eqb-true v 0 (sym e ∙ h)
+
+pub none-on : (s l : ℕ) → s ≡ 0 → On s l → ⊥
+none-on s l e h = empty-off l (rw e at h)

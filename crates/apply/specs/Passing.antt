@@ -1,14 +1,17 @@
 -- What a call hands over to the functions that it enters. Assumes nothing.
 use mathlib.Core.Path.{_≡_}
+use mathlib.Core.Logic.{_⊎_}
 use mathlib.Core.Bool.{Bool}
 use Prim.Native.Nat.{ℕ, _<_}
 use Rattle.words.specs.Words.{bit}
 use Rattle.rules.specs.Table.{Table, Has}
-use Rattle.rules.specs.Rule.{Rule}
+use Rattle.rows.specs.Row.{variable, property, chain}
+use Rattle.rules.specs.Rule.{Rule, give, include, each, _also_}
 use Rattle.program.specs.Program.{Program}
 use Rattle.analysis.specs.Rules.{calling, making}
 use Rattle.records.specs.declared.Site.{Site}
 use Rattle.records.specs.Say.{arguments}
+use Rattle.uses.specs.Use.{including}
 use Rattle.kept.specs.Promise.{input, Takes}
 
 -- what variable v holds, to the j-th input of the functions fs
@@ -23,5 +26,16 @@ handingAll wide p fs inputs n t r l = (j : ℕ) × (j < n) × handing wide p fs 
 abbrev pub callBy : Program → Site → Rule
 callBy p s = calling p (s .scope .0) (s .result .0) (s .callee .0) (s .inputs .this .0) (arguments (s .inputs))
 
+-- new without its call
+abbrev pub objectRule : ℕ → ℕ → ℕ → ℕ → Rule
+objectRule y c x l =
+    give (variable x) l
+    also include (variable y) (variable x)
+    also each (variable c) (λ f. each (chain f) (λ m. include (chain l) (property m 3)))
+
 abbrev pub newBy : Program → Site → ℕ → Rule
 newBy p s l = making p (s .scope .0) (s .result .0) (s .callee .0) (s .inputs .this .0) l (arguments (s .inputs))
+
+-- each of two rows holds what the other does
+abbrev pub Mutual : ℕ → ℕ → Table → ℕ → ℕ → Type 0
+Mutual y x t r l = including y x t r l ⊎ including x y t r l

@@ -11,7 +11,7 @@ ghost use Rattle.uses.specs.Use.{Lent, tells, including, Used};
 ghost use Rattle.records.specs.Say.{inputAt};
 ghost use Rattle.host.specs.Lays.{Lays, functionsIn, Functions, FormalsOf, ReturnsOf};
 ghost use Rattle.shared.specs.Apply.{Applies};
-ghost use Rattle.apply.specs.Passing.{handing, handingAll, callBy, newBy};
+ghost use Rattle.apply.specs.Passing.{handing, handingAll, callBy, objectRule, newBy};
 use records::Inputs;
 use records::Site;
 use rows::Label;
@@ -104,7 +104,30 @@ pub fn call(
     handed | (back | thrown)
 }
 
-// `making`: S(t) holds l; S(y) gets S(t); P(l) what is found under name 3 along the chains of the callee; then a call with t as this.
+// The first part of `making`: S(t) holds l; S(y) gets S(t); P(l) what is found under name 3 along the chains of the callee.
+fn make_object(
+    t: &mut [u64],
+    o: usize,
+    wide: bool,
+    host: &[u64; 16],
+    keeps: &mut [u64; 256],
+    y: Var,
+    callee: Var,
+    this: Var,
+    l: Label,
+) -> bool
+    requires { ⌜ Lent wide o (length (now t)) × (l .0 < labels wide) ⌝ }
+    ensures { λ grew. ⌜ ((p : Program) → Lays wide p (now (host .entry)) → Applies wide o p (tells wide (objectRule (y .0) (callee .0) (this .0) (l .0))) (now (t .entry)) (now (keeps .entry)) (now (t .exit)) (now (keeps .exit)) grew) ⌝ }
+{
+    let gave = uses::give(t, o, wide, this.row(), l);
+    let same = include_held(t, o, wide, y, this);
+    let held = uses::held(t, wide, callee);
+    let on = told_chains(t, wide, keeps, callee, held);
+    let found = look_up(t, o, wide, host, keeps, l.chain(wide), PROTOTYPE, on);
+    gave | (same | found)
+}
+
+// `making`: the object, then a call with t as this.
 pub fn make_new(
     t: &mut [u64],
     o: usize,
@@ -123,16 +146,21 @@ pub fn make_new(
     ensures { λ grew. ⌜ ((p : Program) → Lays wide p (now (host .entry)) → FormalsOf p (now (formals .entry)) → ReturnsOf p (record { first = now (first .entry); second = now (second .entry); third = now (third .entry); fourth = now (fourth .entry) }) → Applies wide o p (tells wide (newBy p site (l .0))) (now (t .entry)) (now (keeps .entry)) (now (t .exit)) (now (keeps .exit)) grew) ⌝ }
 {
     let inputs = site.inputs;
-    let this = inputs.this;
-    let gave = uses::give(t, o, wide, this.row(), l);
-    let same = include_held(t, o, wide, site.result, this);
-    let held = uses::held(t, wide, site.callee);
-    let on = told_chains(t, wide, keeps, site.callee, held);
-    let found = look_up(t, o, wide, host, keeps, l.chain(wide), PROTOTYPE, on);
+    let made = make_object(
+        t,
+        o,
+        wide,
+        host,
+        keeps,
+        site.result,
+        site.callee,
+        inputs.this,
+        l,
+    );
     let called = call(
         t, o, wide, host, formals, first, second, third, fourth, keeps, site,
     );
-    gave | (same | (found | called))
+    made | called
 }
 
 // What variable x holds, into variable y.

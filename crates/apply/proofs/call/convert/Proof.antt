@@ -1,73 +1,88 @@
+-- Prim: along the chains, under two names, then the functions. Assumes nothing.
 use borrow.Author.Needs.{needs}
+use native.Mathlib.Omega.{arith}
+use Rattle.sets.specs.Value.{value}
+use Rattle.apply.proofs.Through.{is-none}
+use Rattle.apply.proofs.Calls.{functions-are}
+use Rattle.apply.proofs.Conversions.{converts-nothing, convert-applies}
 use Rattle.apply.proofs.call.convert.Statement.{statement}
 use Rattle.apply.proofs.call.convert.Tie as tie
-use Rattle.apply.proofs.call.convert.Reads as reads
-use Rattle.apply.proofs.call.convert.Lts as lts
-use Rattle.apply.proofs.call.functions_in.Reads as functions-in-reads
-use Rattle.sets.proofs.is_empty.Reads as is-empty-reads
-use Rattle.sets.proofs.none.Reads as none-reads
-use Rattle.sets.proofs.union.Reads as union-reads
-use Rattle.shared.proofs.spread.spread_inputs.Reads as spread-inputs-reads
-use Rattle.shared.proofs.told.throw_on.Reads as throw-on-reads
-use Rattle.shared.proofs.told.told_chains.Reads as told-chains-reads
-use Rattle.shared.proofs.told.told_under.Reads as told-under-reads
-use Rattle.uses.proofs.held.Reads as held-reads
 
--- src/call.rt:165:9
 held-requires : tie.Need-held-requires
 held-requires c κs = search needs
 
--- src/call.rt:166:9
 told-chains-requires : tie.Need-told-chains-requires
 told-chains-requires c κs = search needs
 
--- src/call.rt:167:9
 none-requires : tie.Need-none-requires
 none-requires c κs = search needs
 
--- src/call.rt:168:9
 told-under-requires : tie.Need-told-under-requires
 told-under-requires c κs = search needs
 
--- src/call.rt:169:9
 told-under-requires-2 : tie.Need-told-under-requires-2
-told-under-requires-2 c κs = ?
+told-under-requires-2 c κs = (omega (arith, c .before .before .before .before .before .before .before .before .before .before .before .before .pre .0 .room), (omega arith, λ i. omega arith))
 
--- src/call.rt:170:39
 union-requires : tie.Need-union-requires
 union-requires c κs = search needs
 
--- src/call.rt:170:9
 functions-in-requires : tie.Need-functions-in-requires
 functions-in-requires c κs = search needs
 
--- src/call.rt:171:8
 is-empty-requires : tie.Need-is-empty-requires
 is-empty-requires c κs = search needs
 
--- src/call.rt:172:9
 same-length : tie.Need-same-length
 same-length c = search needs
 
--- src/call.rt:172:9
 returns : tie.Need-returns
-returns c = ?
+returns c = 
+    let empty = c .before in
+    let fs = empty .before in
+    let union = fs .before in
+    let second = union .before in
+    let first = second .before .before .before in
+    let none = first .before .before .before in
+    let chains = none .before in
+    let held = chains .before .before .before in
+    let start = held .before .before .before in
+    let a = start .args in
+    λ p lays formals. converts-nothing (a .k .0) (a .x .0) (start .pre .0 .apart) lays (held .held .ensures) (chains .told-chains .ensures p)
+    (rw (none .none .ensures) at (first .told-under .ensures p lays)) (rw (none .none .ensures) at (second .told-under2 .ensures p lays))
+    (rw (union .union .ensures) at (fs .functions-in .ensures)) (is-none _ (empty .is-empty .ensures) (c .if1 .taken))
 
--- src/call.rt:174:9
 spread-inputs-requires : tie.Need-spread-inputs-requires
-spread-inputs-requires c κs = ?
+spread-inputs-requires c κs = 
+    let start = c .before .before .before .before .before .before .before .before .before .before .before .before .before .before .before .before .before .before .before in
+    (record { room = search needs; apart = start .pre .0 .apart }, omega arith)
 
--- src/call.rt:175:9
 throw-on-requires : tie.Need-throw-on-requires
-throw-on-requires c κs = ?
+throw-on-requires c κs = 
+    let start = c .before .before .before .before .before .before .before .before .before .before .before .before .before .before .before .before .before .before .before .before .before .before .before .before in
+    (record { room = search needs; apart = start .pre .0 .apart }, start .pre .1)
 
--- src/call.rt:152:1
 same-length-2 : tie.Need-same-length-2
 same-length-2 c = search needs
 
--- src/call.rt:152:1
 returns-2 : tie.Need-returns-2
-returns-2 c = ?
+returns-2 c = 
+    let hurl = c .before .before in
+    let spread = hurl .before .before .before .before .before in
+    let empty = spread .before .before .before .before in
+    let fs = empty .before in
+    let union = fs .before in
+    let second = union .before in
+    let first = second .before .before .before in
+    let none = first .before .before .before in
+    let chains = none .before in
+    let held = chains .before .before .before in
+    let start = held .before .before .before in
+    let a = start .args in
+    λ p lays formals.
+    let is-fs = rw (union .union .ensures) at (fs .functions-in .ensures) in
+    convert-applies (a .k .0) (a .x .0) (start .pre .0 .apart) lays (held .held .ensures) (chains .told-chains .ensures p)
+    (rw (none .none .ensures) at (first .told-under .ensures p lays)) (rw (none .none .ensures) at (second .told-under2 .ensures p lays)) is-fs
+    (spread .spread-inputs .ensures p formals (functions-are (value (a .wide) (union .union .result)) lays (fs .functions-in .ensures))) (hurl .throw-on .ensures p)
 
 pub convert-spec : {M : Type 1} → statement M
 convert-spec =

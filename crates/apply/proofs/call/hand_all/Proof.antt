@@ -1,47 +1,68 @@
+-- All inputs, one after the other. Assumes nothing.
+use borrow.Author.Needs.{needs}
+use mathlib.Core.Path.{_≡_, refl, ap}
+use native.Mathlib.Omega.{arith}
+use Prim.Native.Nat.{ℕ, _-_, _≤_}
+use lib.ListN.{length}
+use Rattle.program.specs.Program.{Program}
+use Rattle.sets.specs.Value.{value}
+use Rattle.host.specs.Lays.{FormalsOf, Functions}
+use Rattle.records.specs.Say.{inputAt}
+use Rattle.shared.specs.Apply.{Applies}
+use Rattle.apply.specs.Passing.{handingAll}
+use Rattle.apply.proofs.Calls.{hands-none, hands-next}
 use Rattle.apply.proofs.call.hand_all.Statement.{statement}
 use Rattle.apply.proofs.call.hand_all.Tie as tie
-use Rattle.apply.proofs.call.hand_all.Reads as reads
-use Rattle.apply.proofs.call.hand_all.Lts as lts
-use Rattle.apply.proofs.call.hand_over.Reads as hand-over-reads
-use Rattle.records.proofs.Inputs.at.Reads as at-reads
 
 abbrev Inv-loop : tie.InvT-loop
-Inv-loop t₀ o wide formals keeps₀ fs inputs grew₀ j₀ t keeps grew j = ?
+Inv-loop t₀ o wide formals keeps₀ fs inputs grew₀ j₀ t keeps grew j =
+    (length t ≡ length t₀) × (j ≤ 7)
+    × ((p : Program) → FormalsOf p formals → Functions p (value wide fs) → Applies wide o p (handingAll wide p (value wide fs) (inputAt inputs) j) t₀ keeps₀ t keeps grew)
 
 abbrev μ-loop : tie.MeasureT-loop
-μ-loop t₀ o wide formals keeps₀ fs inputs grew₀ j₀ t keeps grew j = ?
+μ-loop t₀ o wide formals keeps₀ fs inputs grew₀ j₀ t keeps grew j = 7 - j
 
--- src/call.rt:63:5
 loop-holds : tie.Need-loop-holds Inv-loop μ-loop
-loop-holds c = ?
+loop-holds c = (refl, omega arith, λ p formals functions. hands-none _ _)
 
--- src/call.rt:64:65
 at-requires : tie.Need-at-requires Inv-loop μ-loop
-at-requires c κs = ?
+at-requires c κs = search needs
 
--- src/call.rt:64:13
 hand-over-requires : tie.Need-hand-over-requires Inv-loop μ-loop
-hand-over-requires c κs = ?
+hand-over-requires c κs = 
+    let at = c in
+    let loop = at .before .before .before .before in
+    let start = loop .before .before in
+    (rw (loop .loop .inv .0) (start .pre), search needs)
 
--- src/call.rt:66:9
 add-j : tie.Need-add-j Inv-loop μ-loop
-add-j c = ?
+add-j c = search needs
 
--- src/call.rt:63:5
 loop-less : tie.Need-loop-less Inv-loop μ-loop
-loop-less c = ?
+loop-less c = search needs
 
--- src/call.rt:63:5
 loop-again : tie.Need-loop-again Inv-loop μ-loop
-loop-again c = ?
+loop-again c = 
+    let over = c .before .before in
+    let at = over .before in
+    let loop = at .before .before .before .before in
+    let start = loop .before .before in
+    let a = start .args in
+    (
+      search needs,
+      search needs,
+      λ p formals functions. hands-next (value (a .wide) (a .fs)) (inputAt (a .inputs)) (loop .loop .j) (start .pre .apart) (loop .loop .inv .2 p formals functions)
+          (rw (at .at .ensures) at (over .hand-over .ensures p formals functions)),
+    )
 
--- src/call.rt:49:1
 same-length : tie.Need-same-length Inv-loop μ-loop
-same-length c = ?
+same-length c = search needs
 
--- src/call.rt:49:1
 returns : tie.Need-returns Inv-loop μ-loop
-returns c = ?
+returns c = 
+    let loop = c .before in
+    let e : loop .loop .j ≡ 7 = omega (arith, loop .loop .inv .1, c .loop-test .left) in
+    λ p formals functions. rw (← e) (loop .loop .inv .2 p formals functions)
 
 pub hand-all-spec : {M : Type 1} → statement M
 hand-all-spec =

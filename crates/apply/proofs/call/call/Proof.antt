@@ -1,0 +1,76 @@
+-- A call: its inputs, what is handed back, what is thrown. Assumes nothing.
+use borrow.Author.Needs.{needs}
+use Rattle.sets.specs.Value.{value}
+use Rattle.apply.proofs.Through.{is-none}
+use Rattle.apply.proofs.Calls.{functions-are, calls-nothing, call-applies}
+use Rattle.apply.proofs.call.call.Statement.{statement}
+use Rattle.apply.proofs.call.call.Tie as tie
+
+held-requires : tie.Need-held-requires
+held-requires c κs = search needs
+
+functions-in-requires : tie.Need-functions-in-requires
+functions-in-requires c κs = search needs
+
+is-empty-requires : tie.Need-is-empty-requires
+is-empty-requires c κs = search needs
+
+same-length : tie.Need-same-length
+same-length c = search needs
+
+returns : tie.Need-returns
+returns c = 
+    let empty = c .before in
+    let fs = empty .before in
+    let held = fs .before in
+    let start = held .before .before .before in
+    let s = start .args .site in
+    λ p lays formals returning. calls-nothing (s .scope .0) (s .result .0) (s .callee .0) (s .inputs) lays (held .held .ensures) (fs .functions-in .ensures)
+    (is-none _ (empty .is-empty .ensures) (c .if1 .taken))
+
+hand-all-requires : tie.Need-hand-all-requires
+hand-all-requires c κs = 
+    let start = c .before .before .before .before .before .before .before .before .before in
+    record { room = search needs; apart = start .pre .0 .apart }
+
+hand-back-requires : tie.Need-hand-back-requires
+hand-back-requires c κs = 
+    let start = c .before .before .before .before .before .before .before .before .before .before .before .before .before .before in
+    record { room = search needs; apart = start .pre .0 .apart }
+
+throw-on-requires : tie.Need-throw-on-requires
+throw-on-requires c κs = 
+    let start = c .before .before .before .before .before .before .before .before .before .before .before .before .before .before .before .before .before .before .before in
+    (record { room = search needs; apart = start .pre .0 .apart }, start .pre .1)
+
+same-length-2 : tie.Need-same-length-2
+same-length-2 c = search needs
+
+returns-2 : tie.Need-returns-2
+returns-2 c = 
+    let hurl = c .before .before in
+    let back = hurl .before .before .before .before .before in
+    let all = back .before .before .before .before .before in
+    let fs = all .before .before .before .before .before .before in
+    let held = fs .before in
+    let start = held .before .before .before in
+    let s = start .args .site in
+    λ p lays formals returning.
+    let functions = functions-are (value (start .args .wide) (held .held .result)) lays (fs .functions-in .ensures) in
+    call-applies (s .scope .0) (s .result .0) (s .callee .0) (s .inputs) (start .pre .0 .apart) lays (held .held .ensures) (fs .functions-in .ensures)
+    (all .hand-all .ensures p formals functions) (back .hand-back .ensures p returning functions) (hurl .throw-on .ensures p)
+
+pub call-spec : {M : Type 1} → statement M
+call-spec =
+    tie.close
+    (tie.spec
+    held-requires
+    functions-in-requires
+    is-empty-requires
+    same-length
+    returns
+    hand-all-requires
+    hand-back-requires
+    throw-on-requires
+    same-length-2
+    returns-2)
