@@ -1,3 +1,4 @@
 // x
 pub mod call;
+pub mod plain;
 pub mod property;

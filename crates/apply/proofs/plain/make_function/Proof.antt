@@ -1,0 +1,30 @@
+-- The function and its prototype property. Assumes nothing.
+use borrow.Author.Needs.{needs}
+use Rattle.uses.proofs.Use.{used-since, used-then}
+use Rattle.apply.proofs.plain.make_function.Statement.{statement}
+use Rattle.apply.proofs.plain.make_function.Tie as tie
+
+give-label-requires : tie.Need-give-label-requires
+give-label-requires c κs = search needs
+
+set-property-requires : tie.Need-set-property-requires
+set-property-requires c κs = search needs
+
+same-length : tie.Need-same-length
+same-length c = search needs
+
+returns : tie.Need-returns
+returns c = 
+    let set = c .before .before in
+    let made = set .before .before .before .before in
+    let apart = made .before .before .before .pre .0 .apart in
+    used-then apart (made .give-label .ensures) (used-since (λ r l h. h) (set .set-property .ensures))
+
+pub make-function-spec : {M : Type 1} → statement M
+make-function-spec =
+    tie.close
+    (tie.spec
+    give-label-requires
+    set-property-requires
+    same-length
+    returns)

@@ -1,0 +1,31 @@
+-- Two rows, each joined to the other. Assumes nothing.
+use borrow.Author.Needs.{needs}
+use Rattle.uses.proofs.Use.{reached-read, used-since, used-then}
+use Rattle.apply.proofs.plain.same.Statement.{statement}
+use Rattle.apply.proofs.plain.same.Tie as tie
+
+include-requires : tie.Need-include-requires
+include-requires c κs = search needs
+
+include-requires-2 : tie.Need-include-requires-2
+include-requires-2 c κs = search needs
+
+same-length : tie.Need-same-length
+same-length c = search needs
+
+returns : tie.Need-returns
+returns c = 
+    let second = c .before .before in
+    let first = second .before .before .before .before in
+    let apart = first .before .before .before .pre .0 .apart in
+    let e = first .include .ensures in
+    used-then apart e (used-since (λ r l h. (h .0, h .1, reached-read apart (e .only) _ l (h .2))) (second .include2 .ensures))
+
+pub same-spec : {M : Type 1} → statement M
+same-spec =
+    tie.close
+    (tie.spec
+    include-requires
+    include-requires-2
+    same-length
+    returns)
