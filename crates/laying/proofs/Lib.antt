@@ -1,0 +1,3 @@
+-- Laws of what the arrays hold. Assumes nothing.
+pub mod Words
+pub mod Laid

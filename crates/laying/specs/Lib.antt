@@ -1,0 +1,2 @@
+-- What the arrays are filled with that the engine goes by.
+pub mod Holds
