@@ -1,17 +1,15 @@
 -- The variables that functions return, collected record by record. Assumes nothing.
-use mathlib.Core.Path.{_≡_, refl, sym, ap, ap₂, _∙_, subst}
+use mathlib.Core.Path.{_≡_, refl, sym, ap, ap₂, _∙_}
 use mathlib.Core.Logic.{_⊎_, inl, inr}
 use mathlib.Core.List.{List, [], _∷_, _++_, List·Memᴰ, List·Memᴰ·head, List·Memᴰ·tail, List·Memᴰ·cases-cons, List·Memᴰ·not-nil, List·Memᴰ·append-cases, List·Memᴰ·eq-of-singleton, Memᴰ·append-left, Memᴰ·append-right, append-nil}
 use mathlib.Core.Bool.{Bool, true, false, cond}
 use Prim.Native.Nat.{ℕ, zero, suc, _+_, _*_, _/_, _%_, _≤_, _<_}
 use native.Mathlib.Decide.{ℕ-discrete}
-use native.Mathlib.Numerals.{add-one}
 use native.Mathlib.Omega.{arith}
-use lib.ListN.{length, getD, take, drop, replicate, length-replicate}
+use lib.ListN.{length, getD, drop, replicate, length-replicate}
 use lib.Seq.{getD-take, getD-drop}
 use lib.Dec.{ltb}
 use borrow.Author.Tests.{eqb-true}
-use Rattle.words.specs.Words.{bit}
 use Rattle.words.proofs.Bits.{empty-off}
 use Rattle.layout.specs.Layout.{bodyLength}
 use Rattle.format.specs.Sheet.{typeOf}
@@ -20,10 +18,10 @@ use Rattle.format.specs.Reading.{Reading, readFile, Readable, positioned}
 use Rattle.format.proofs.Later.{declared-below}
 use Rattle.format.proofs.Ready.{Among, Made}
 use Rattle.format.proofs.Readable.{readable-ready}
-use Rattle.program.specs.Program.{programOf, returnsOf, isFunction}
+use Rattle.program.specs.Program.{programOf}
 use Rattle.analysis.proofs.Returned.{returns-handed, handed-returns}
 use Rattle.host.specs.Lays.{Returns, returnsFor, HandsBack, ReturnsOf}
-use Rattle.records.specs.Walk.{Walk, bodyAt}
+use Rattle.records.specs.Walk.{Walk}
 use Rattle.records.proofs.Walks.{here, body-at, onward, next-done, rest-end}
 use Rattle.laying.specs.Marked.{Whole, Marked, MarkedAt}
 

@@ -6,11 +6,11 @@ use mathlib.Core.Bool.{Bool, true, false, cond}
 use Prim.Native.Nat.{ℕ, zero, suc, _+_, _*_, _/_, _%_, _^_, _<_}
 use native.Mathlib.Decide.{ℕ-discrete}
 use native.Mathlib.Omega.{arith}
-use lib.ListN.{length, getD, length-set}
+use lib.ListN.{length, getD}
 use lib.Seq.{getD-set-same, getD-set-other}
 use lib.Dec.{ltb}
 use borrow.Author.Tests.{ltb-true, ltb-false}
-use Rattle.words.specs.Words.{bit, union}
+use Rattle.words.specs.Words.{union}
 use Rattle.words.proofs.Bits.{On, on-union, on-left, on-right, on-single, single-only}
 use Rattle.host.specs.Lays.{Returns, returnedWord, returnsFor, HandsBack}
 use Rattle.laying.specs.Marked.{Whole, withMark, Marked}

@@ -1,6 +1,6 @@
 -- Words that hold the numbers which pass a test, one number more at a time, and the words of the classes. Assumes nothing.
 use mathlib.Core.Path.{_≡_, refl, sym, _∙_, subst}
-use mathlib.Core.Logic.{_⊎_, inl, inr, _↔_}
+use mathlib.Core.Logic.{_⊎_, inl, inr}
 use mathlib.Core.Bool.{Bool, true, false, cond, true≢false}
 use mathlib.Core.List.{List}
 use Prim.Native.Nat.{ℕ, _+_, _^_, _<_}
@@ -8,7 +8,7 @@ use native.Mathlib.Decide.{ℕ-discrete}
 use native.Mathlib.Omega.{arith}
 use lib.ListN.{length, getD, set}
 use lib.Seq.{getD-set-same, getD-set-other}
-use Rattle.words.specs.Words.{bit, union}
+use Rattle.words.specs.Words.{union}
 use Rattle.words.proofs.Bits.{On, empty-off, on-union, on-left, on-right, on-single, single-only}
 use Rattle.laying.specs.Holds.{Holds, ofClass, Classes}
 

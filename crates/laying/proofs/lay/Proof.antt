@@ -1,6 +1,5 @@
 -- The array `host`, part by part. Assumes nothing.
 use borrow.Author.Needs.{needs}
-use native.Mathlib.Omega.{arith}
 use Rattle.host.proofs.Rows.{row-fits}
 use Rattle.laying.proofs.Laid.{lays}
 use Rattle.laying.proofs.lay.Statement.{statement}
