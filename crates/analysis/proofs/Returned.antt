@@ -1,23 +1,20 @@
--- The variables that a scope's returns hand back: each stands in a return of the program, and the sheet's words hold exactly these.
--- Assumes nothing.
+-- The variables that a scope's returns hand back: each stands in a return of the program, the guest's or a record's. Assumes nothing.
 use mathlib.Core.Path.{_≡_, refl, sym, ap, ap₂, subst, _∙_}
-use mathlib.Core.Logic.{_⊎_, inl, inr, _↔_}
+use mathlib.Core.Logic.{_⊎_, inl, inr}
 use mathlib.Core.List.{List, [], _∷_, _++_, List·Memᴰ, List·Memᴰ·cases-cons, List·Memᴰ·not-nil, List·Memᴰ·head, List·Memᴰ·tail, List·Memᴰ·eq-of-singleton, List·Memᴰ·append-cases, Memᴰ·append-left, Memᴰ·append-right}
 use mathlib.Core.Bool.{Bool, true, false, cond}
-use Prim.Native.Nat.{ℕ, _+_, _*_, _/_, _%_, _<_, _≤_}
+use Prim.Native.Nat.{ℕ, _<_}
 use native.Mathlib.Omega.{arith}
-use lib.ListN.{length, getD}
+use lib.ListN.{length}
 use lib.Dec.{eqb}
 use borrow.Author.Tests.{eqb-true, eq-eqb}
-use Rattle.words.specs.Words.{bit}
 use Rattle.layout.specs.Layout.{fieldsOf}
 use Rattle.format.specs.Sheet.{Sheet}
 use Rattle.format.specs.Fields.{Fits}
 use Rattle.format.specs.Records.{Record, field}
-use Rattle.format.specs.Reading.{Reading, readFile, Readable}
+use Rattle.format.specs.Reading.{Reading}
 use Rattle.format.proofs.Fields.{fits-length}
-use Rattle.format.proofs.Ready.{Among, AllFit, HandsBack, Made}
-use Rattle.format.proofs.Readable.{readable-ready}
+use Rattle.format.proofs.Ready.{Among, AllFit, Made}
 use Rattle.program.specs.Statement as say
 use Rattle.program.specs.Statement.{statementsOf}
 use Rattle.program.specs.Program.{Program, noRecord, placed, guestStatements, guestsStatements, hostStatements, guestsOf, programOf, statements, returnedBy, returnsIn, returnsOf}
@@ -174,10 +171,13 @@ returns-host f v (q ∷ qs) at i = go (List·Memᴰ·cases-cons i) (returns-host
         (subst (λ (x : ℕ × Record). List·Memᴰ {A = ℕ × say.Statement} (at, say.return f v) (placed (x .0) (statementsOf (x .1)))) e (List·Memᴰ·head refl))
     go (inr j) rest = Memᴰ·append-right (placed (q .0) (statementsOf (q .1))) (rest j)
 
--- ---- the sheet's words
+-- ---- the guest's return, and the records'
+
+-- a return in scope k hands back v: the guest's bag in scope 3, else by a record
+abbrev pub HandsBack : List (ℕ × Record) → ℕ → ℕ → Type 0
+HandsBack ps k v = ((k ≡ 3) × (v ≡ 1)) ⊎ Among 23 (k ∷ v ∷ []) ps
 
 module _ (L : ℕ) (d : Reading) (m : Made L (d .sheet) (d .records)) where
-  -- the guest's return, or a record's
   pub returns-handed : (f v : ℕ) → List·Memᴰ v (returnsOf (programOf d) f) → HandsBack (d .records) f v
   unfolding returnsOf statements programOf guestsStatements guestStatements returnsIn
   returns-handed f v i = let r = returns-in f (statements (programOf d)) v i in
@@ -207,14 +207,3 @@ module _ (L : ℕ) (d : Reading) (m : Made L (d .sheet) (d .records)) where
   handed-returns f v (inr a) =
       in-returns f (statements (programOf d)) v (a .position)
       (Memᴰ·append-right (guestsStatements (guestsOf (d .sheet))) (returns-host f v (d .records) (a .position) (a .member)))
-
-  -- v is handed back in scope f exactly where its bit of the scope's four words is set
-  pub returned-words : (f v : ℕ) → f < L → v < 256
-      → List·Memᴰ v (returnsOf (programOf d) f) ↔ (bit (getD (d .sheet .returned) (4 * f + v / 64) 0) (v % 64) ≡ 1)
-  returned-words f v hf hv =
-      let w = m .returned .returned-record f v hf hv in
-      ((λ i. w .1 (returns-handed f v i)), (λ b. handed-returns f v (w .0 b)))
-
-pub readable-returned : (L : ℕ) (xs : List ℕ) → 5 ≤ L → Readable L xs → (f v : ℕ) → f < L → v < 256
-    → List·Memᴰ v (returnsOf (programOf (readFile L xs)) f) ↔ (bit (getD (readFile L xs .sheet .returned) (4 * f + v / 64) 0) (v % 64) ≡ 1)
-readable-returned L xs five ok = returned-words L (readFile L xs) (readable-ready L xs five ok .made)

@@ -16,10 +16,9 @@ judging types owners = record {
   masks = [];
   owners = owners;
   names = [];
-  returned = [];
   forbidden = 0;
 }
 
--- what byte b is refused with in a field of class c, 0 where it is good
-unfoldable pub fieldRefusal : Sheet → Class → ℕ → ℕ
-fieldRefusal s c b = cond (good 64 s c b) 0 (refusalOf c)
+-- what byte b is refused with in a field of class c, 0 where it is good; L is the number of labels
+unfoldable pub fieldRefusal : ℕ → Sheet → Class → ℕ → ℕ
+fieldRefusal L s c b = cond (good L s c b) 0 (refusalOf c)

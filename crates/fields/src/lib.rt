@@ -1,16 +1,18 @@
 // The test of a field's byte: whether it is good in its class, judged by the label types and the variables' owners so far, and the number with which it
-// is refused (document 01, "What each operation says no to"). The classes are those of the crate layout.
+// is refused (document 01, "What each operation says no to"). The classes are those of the crate layout. `wide` says which edition it is: how many
+// labels there are, and how many of the label types count.
 ghost use mathlib.Core.Path.{_≡_};
 ghost use mathlib.Core.Bool.{_&&_, _||_};
-ghost use Prim.Native.Nat.{_<_};
-ghost use lib.ListN.{getD};
+ghost use Prim.Native.Nat.{_<_, _≤_};
+ghost use lib.ListN.{getD, length, take};
 ghost use lib.Dec.{leb, eqb};
+ghost use Rattle.rows.specs.Edition.{labels};
 ghost use Rattle.layout.specs.Layout.{classOf};
 ghost use Rattle.format.specs.Fields.{good, refusalOf};
 ghost use Rattle.fields.specs.Judging.{judging, fieldRefusal};
 
 // A byte as an index.
-pub fn wide(b: u8) -> usize
+pub fn index(b: u8) -> usize
     ensures { λ r. ⌜ (r ≡ b) × (r < 256) ⌝ }
 {
     b as usize
@@ -20,7 +22,7 @@ pub fn wide(b: u8) -> usize
 fn type_of(types: &[u8], b: u8) -> u8
     ensures { λ r. ⌜ r ≡ getD (now (types .entry)) b 0 ⌝ }
 {
-    let l = wide(b);
+    let l = index(b);
     if l < types.len() { types[l] } else { 0 }
 }
 
@@ -28,7 +30,7 @@ fn type_of(types: &[u8], b: u8) -> u8
 pub fn owner_of(owners: &[u8], b: u8) -> u8
     ensures { λ r. ⌜ r ≡ getD (now (owners .entry)) b 1 ⌝ }
 {
-    let v = wide(b);
+    let v = index(b);
     if v < owners.len() { owners[v] } else { 1 }
 }
 
@@ -53,13 +55,14 @@ fn made(types: &[u8], b: u8, t: u8) -> bool
     both(5 <= b, type_of(types, b) == t)
 }
 
-pub fn is_good<'a>(types: &'a [u8], owners: &'a [u8], class: u8, b: u8) -> bool
-    ensures { λ r. ⌜ r ≡ good 64 (judging (now (types .entry)) (now (owners .entry))) (classOf class) b ⌝ }
+// Byte b is good in a field of the class.
+pub fn is_good<'a>(wide: bool, types: &'a [u8], owners: &'a [u8], class: u8, b: u8) -> bool
+    ensures { λ r. ⌜ r ≡ good (labels wide) (judging (now (types .entry)) (now (owners .entry))) (classOf class) b ⌝ }
 {
     match class {
         0 => b < 32,
         1 => b % 2 == 1,
-        2 => both(5 <= b, b < 64),
+        2 => both(5 <= b, index(b) < rows::labels(wide)),
         3 => both(1 <= b, b <= 3),
         4 => b <= 1,
         5 => type_of(types, b) != 0,
@@ -86,15 +89,18 @@ const REFUSALS: [u8; 17] = [5, 5, 4, 5, 5, 4, 4, 4, 4, 4, 4, 3, 3, 3, 3, 5, 5];
 fn refusal_of(class: u8) -> u8
     ensures { λ r. ⌜ r ≡ refusalOf (classOf class) ⌝ }
 {
-    let c = wide(class);
+    let c = index(class);
     if c < 17 { REFUSALS[c] } else { 5 }
 }
 
-// The number with which byte b is refused in a field of the class, 0 where it is good.
-pub fn field_refusal<'a>(types: &'a [u8], owners: &'a [u8], class: u8, b: u8) -> u8
-    ensures { λ r. ⌜ r ≡ fieldRefusal (judging (now (types .entry)) (now (owners .entry))) (classOf class) b ⌝ }
+// The number with which byte b is refused in a field of the class, 0 where it is good. Of the types those of the edition's labels count.
+pub fn field_refusal<'a>(wide: bool, types: &'a [u8], owners: &'a [u8], class: u8, b: u8) -> u8
+    requires { ⌜ labels wide ≤ length (now types) ⌝ }
+    ensures { λ r. ⌜ r ≡ fieldRefusal (labels wide) (judging (take (labels wide) (now (types .entry))) (now (owners .entry))) (classOf class) b ⌝ }
 {
-    if is_good(types, owners, class, b) {
+    let n = rows::labels(wide);
+    let counted = &types[..n];
+    if is_good(wide, counted, owners, class, b) {
         return 0;
     }
     refusal_of(class)

@@ -17,7 +17,7 @@ use Rattle.format.specs.Records.{Record, WellFormed, after}
 use Rattle.format.specs.Reading.{sheetAfter, AllWellFormed}
 use Rattle.format.proofs.Tests.{and-map, or-map}
 use Rattle.format.proofs.Fields.{fits-length}
-use Rattle.format.proofs.Effect.{Effect, gives-mask, declares-label, forbids, defines, declares-variable, returns, leaves-sheet, effect, not-equal, Function}
+use Rattle.format.proofs.Effect.{Effect, gives-mask, declares-label, forbids, defines, declares-variable, leaves-sheet, effect, not-equal, Function}
 
 -- the arrays have their lengths
 pub record Sized (L : ℕ) (s : Sheet) : Type 0 where
@@ -28,7 +28,6 @@ pub record Sized (L : ℕ) (s : Sheet) : Type 0 where
   pub masks-length : length (s .masks) ≡ 32
   pub owners-length : length (s .owners) ≡ 256
   pub names-length : length (s .names) ≡ 256
-  pub returned-length : length (s .returned) ≡ 4 * L
 
 -- what is not the default stands at an index of the list
 pub inside : (xs : List ℕ) (i d : ℕ) → (getD xs i d ≡ d → ⊥) → i < length xs
@@ -64,8 +63,8 @@ extends-trans p q =
 -- a sheet whose arrays are as long as those of one that has its lengths
 sized-as : (L : ℕ) (s s' : Sheet) → Sized L s → length (s' .types) ≡ length (s .types) → length (s' .flags) ≡ length (s .flags)
     → length (s' .defined) ≡ length (s .defined) → length (s' .formals) ≡ length (s .formals) → length (s' .masks) ≡ length (s .masks)
-    → length (s' .owners) ≡ length (s .owners) → length (s' .names) ≡ length (s .names) → length (s' .returned) ≡ length (s .returned) → Sized L s'
-sized-as L s s' z t f d p m o n r =
+    → length (s' .owners) ≡ length (s .owners) → length (s' .names) ≡ length (s .names) → Sized L s'
+sized-as L s s' z t f d p m o n =
     record {
       types-length = t ∙ z .types-length;
       flags-length = f ∙ z .flags-length;
@@ -74,7 +73,6 @@ sized-as L s s' z t f d p m o n r =
       masks-length = m ∙ z .masks-length;
       owners-length = o ∙ z .owners-length;
       names-length = n ∙ z .names-length;
-      returned-length = r ∙ z .returned-length;
     }
 
 pub declared-below : (L : ℕ) (s : Sheet) (l : ℕ) → Sized L s → (typeOf s l ≡ 0 → ⊥) → l < L
@@ -92,16 +90,16 @@ effect-extends {s = s} (gives-mask n m hn hm e) =
     record {
       types-kept = λ l h. refl;
       owners-kept = λ v h. refl;
-      sizes-kept = λ L z. sized-as L s _ z refl refl refl refl (length-set (s .masks) n m) refl refl refl;
+      sizes-kept = λ L z. sized-as L s _ z refl refl refl refl (length-set (s .masks) n m) refl refl;
     }
 effect-extends {s = s} (declares-label l t f h5 hL h1 h3 hf e) =
     record {
       types-kept = λ j h. set-keeps (s .types) l t 0 j e h;
       owners-kept = λ v h. refl;
-      sizes-kept = λ L z. sized-as L s _ z (length-set (s .types) l t) (length-set (s .flags) l f) refl refl refl refl refl refl;
+      sizes-kept = λ L z. sized-as L s _ z (length-set (s .types) l t) (length-set (s .flags) l f) refl refl refl refl refl;
     }
 effect-extends {s = s} (forbids l d) =
-    record { types-kept = λ l h. refl; owners-kept = λ v h. refl; sizes-kept = λ L z. sized-as L s _ z refl refl refl refl refl refl refl refl }
+    record { types-kept = λ l h. refl; owners-kept = λ v h. refl; sizes-kept = λ L z. sized-as L s _ z refl refl refl refl refl refl refl }
 effect-extends {L = L} {s = s} (defines l vs f g e) =
     record {
       types-kept = λ l h. refl;
@@ -109,21 +107,15 @@ effect-extends {L = L} {s = s} (defines l vs f g e) =
       sizes-kept = λ M z.
           sized-as M s _ z refl refl (length-set (s .defined) l 1)
           (length-paste (s .formals) (7 * l) vs 7 (function-room M s l z f) (omega (arith, fits-length L s _ vs g)))
-          refl refl refl refl;
+          refl refl refl;
     }
 effect-extends {s = s} (declares-variable v k n h2 h255 hk hn e) =
     record {
       types-kept = λ l h. refl;
       owners-kept = λ j h. set-keeps (s .owners) v k 1 j e h;
-      sizes-kept = λ L z. sized-as L s _ z refl refl refl refl refl (length-set (s .owners) v k) (length-set (s .names) v n) refl;
+      sizes-kept = λ L z. sized-as L s _ z refl refl refl refl refl (length-set (s .owners) v k) (length-set (s .names) v n);
     }
-effect-extends {s = s} (returns k v f g) =
-    record {
-      types-kept = λ l h. refl;
-      owners-kept = λ v h. refl;
-      sizes-kept = λ L z. sized-as L s _ z refl refl refl refl refl refl refl (length-set (s .returned) _ _);
-    }
-effect-extends {s = s} (leaves-sheet k b p q) = extends-refl s
+effect-extends {s = s} (leaves-sheet k b p) = extends-refl s
 
 pub record-extends : (L : ℕ) (s : Sheet) (r : Record) → WellFormed L s r → Extends s (after s (r .kind) (r .body))
 record-extends L s r w = effect-extends (effect L s r w)

@@ -14,7 +14,7 @@ pub mod Labels
 pub mod Variables
 pub mod Masks
 pub mod Functions
-pub mod Sets
+pub mod Forbidden
 pub mod Made
 pub mod Readable
 pub mod Missing

@@ -1,27 +1,27 @@
 -- The sheet of the start is made by no record, and each well-formed record, put behind those that made a sheet, makes the next.
 -- Assumes nothing.
-use mathlib.Core.Path.{_≡_, refl, ap, _∙_}
+use mathlib.Core.Path.{_≡_, refl, ap}
 use mathlib.Core.Logic.{_⊎_, inl, inr}
 use mathlib.Core.Bool.{true}
 use mathlib.Core.List.{List, [], _∷_, _++_, append-assoc, append-nil, List·Memᴰ, List·Memᴰ·not-nil, List·Memᴰ·append-cases, List·Memᴰ·eq-of-singleton}
 use Prim.Native.Nat.{ℕ, _+_, _*_, _-_, _<_, _≤_}
 use native.Mathlib.Omega.{arith}
-use lib.ListN.{length, getD, replicate, length-append, length-replicate, length-set, getD-replicate}
+use lib.ListN.{length, getD, replicate, length-append, length-replicate, getD-replicate}
 use Rattle.layout.specs.Layout.{name, variable, fieldsOf, bodyLength}
 use Rattle.format.specs.Sheet.{Sheet, start}
 use Rattle.format.specs.Fields.{good, Fits}
 use Rattle.format.specs.Records.{Record, WellFormed, after}
 use Rattle.format.specs.Reading.{sheetAfter, AllWellFormed, positioned}
 use Rattle.format.proofs.Fields.{fits-length, fits-good}
-use Rattle.format.proofs.Effect.{Effect, gives-mask, declares-label, forbids, defines, declares-variable, returns, leaves-sheet, effect, Variable, variable-of}
-use Rattle.format.proofs.Later.{Sized, inside, Extends, effect-extends, fits-stays, declared-below, function-below, function-room}
+use Rattle.format.proofs.Effect.{Effect, gives-mask, declares-label, forbids, defines, declares-variable, leaves-sheet, effect, Variable, variable-of}
+use Rattle.format.proofs.Later.{Sized, Extends, effect-extends, fits-stays, declared-below, function-room}
 use Rattle.format.proofs.Ready.{AllFit, startTypes, startFlags, Held, Made}
 use Rattle.format.proofs.Among.{followed}
 use Rattle.format.proofs.Labels.{labels-start, labels-more, labels-declared}
 use Rattle.format.proofs.Functions.{startDefined, functions-start, functions-more, functions-defined}
 use Rattle.format.proofs.Variables.{variables-start, variables-more, variables-declared}
 use Rattle.format.proofs.Masks.{masks-start, masks-more, masks-given}
-use Rattle.format.proofs.Sets.{forbidden-start, forbidden-more, forbidden-added, returned-start, returned-more, returned-added}
+use Rattle.format.proofs.Forbidden.{forbidden-start, forbidden-more, forbidden-added}
 
 -- ---- the start
 
@@ -39,7 +39,6 @@ start-sized L h =
       masks-length = length-replicate {A = ℕ} 32 0;
       owners-length = length-replicate {A = ℕ} 256 1;
       names-length = length-replicate {A = ℕ} 256 255;
-      returned-length = length-set {A = ℕ} (replicate (4 * L) 0) 12 2 ∙ length-replicate {A = ℕ} (4 * L) 0;
     }
 
 pub made-start : (L : ℕ) → 5 ≤ L → Made L (start L) []
@@ -52,7 +51,6 @@ made-start L h =
       variables = variables-start L;
       masks = masks-start L;
       forbidden = forbidden-start L;
-      returned = returned-start L h;
     }
 
 -- ---- one record more
@@ -80,10 +78,6 @@ seven-held L s vs f j h = go (variable-of s (getD vs j 0) fine)
     go (inl e) = inl (omega arith)
     go (inr n) = inr n
 
-variable-below : (L : ℕ) (s : Sheet) (v : ℕ) → Sized L s → Variable s v → v < 256
-variable-below L s v z (inl e) = omega arith
-variable-below L s v z (inr n) = omega (arith, inside (s .owners) v 1 n, z .owners-length)
-
 made-record : {L : ℕ} {s : Sheet} {k : ℕ} {b : List ℕ} {s' : Sheet} (ps : List (ℕ × Record)) (at : ℕ) → Made L s ps
     → Sized L s' → AllFit L s' (followed ps at k b) → Extends s s' → Effect L s k b s' → Made L s' (followed ps at k b)
 made-record {L} {s} {k} {b} {s'} ps at m size fit x (gives-mask n a hn odd e) =
@@ -95,7 +89,6 @@ made-record {L} {s} {k} {b} {s'} ps at m size fit x (gives-mask n a hn odd e) =
       variables = variables-more _ _ _ _ ps _ (x .types-kept) (m .variables);
       masks = masks-given _ ps at n a (m .masks) (omega (arith, m .sized .masks-length)) odd;
       forbidden = forbidden-more ps at 1 _ (λ z. omega arith) (m .forbidden);
-      returned = returned-more ps at 1 _ (λ z. omega arith) (m .returned);
     }
 made-record {L} {s} {k} {b} {s'} ps at m size fit x (declares-label l t f h5 hL h1 h3 hf e) =
     record {
@@ -106,7 +99,6 @@ made-record {L} {s} {k} {b} {s'} ps at m size fit x (declares-label l t f h5 hL 
       variables = variables-more _ _ _ _ ps _ (x .types-kept) (m .variables);
       masks = masks-more _ (m .masks);
       forbidden = forbidden-more ps at 2 _ (λ z. omega arith) (m .forbidden);
-      returned = returned-more ps at 2 _ (λ z. omega arith) (m .returned);
     }
 made-record {L} {s} {k} {b} {s'} ps at m size fit x (forbids l d) =
     record {
@@ -117,7 +109,6 @@ made-record {L} {s} {k} {b} {s'} ps at m size fit x (forbids l d) =
       variables = variables-more _ _ _ _ ps _ (x .types-kept) (m .variables);
       masks = masks-more _ (m .masks);
       forbidden = forbidden-added L _ ps at l (declared-below L s l (m .sized) d) (m .forbidden);
-      returned = returned-more ps at 3 _ (λ z. omega arith) (m .returned);
     }
 made-record {L} {s} {k} {b} {s'} ps at m size fit x (defines l vs f g e) =
     record {
@@ -130,7 +121,6 @@ made-record {L} {s} {k} {b} {s'} ps at m size fit x (defines l vs f g e) =
       variables = variables-more _ _ _ _ ps _ (x .types-kept) (m .variables);
       masks = masks-more _ (m .masks);
       forbidden = forbidden-more ps at 4 _ (λ z. omega arith) (m .forbidden);
-      returned = returned-more ps at 4 _ (λ z. omega arith) (m .returned);
     }
 made-record {L} {s} {k} {b} {s'} ps at m size fit x (declares-variable v o n h2 h255 ho hn e) =
     record {
@@ -143,21 +133,8 @@ made-record {L} {s} {k} {b} {s'} ps at m size fit x (declares-variable v o n h2 
           (omega (arith, m .sized .names-length)) h2 (omega arith) ho hn;
       masks = masks-more _ (m .masks);
       forbidden = forbidden-more ps at 5 _ (λ z. omega arith) (m .forbidden);
-      returned = returned-more ps at 5 _ (λ z. omega arith) (m .returned);
     }
-made-record {L} {s} {k} {b} {s'} ps at m size fit x (returns j v f g) =
-    record {
-      sized = size;
-      all-fit = fit;
-      labels = labels-more _ (m .labels);
-      functions = functions-more _ _ _ _ ps _ (x .owners-kept) (m .functions);
-      variables = variables-more _ _ _ _ ps _ (x .types-kept) (m .variables);
-      masks = masks-more _ (m .masks);
-      forbidden = forbidden-more ps at 23 _ (λ z. omega arith) (m .forbidden);
-      returned =
-          returned-added L _ ps at j v (m .sized .returned-length) (function-below L s j (m .sized) f) (variable-below L s v (m .sized) g) (m .returned);
-    }
-made-record {L} {s} {k} {b} {s'} ps at m size fit x (leaves-sheet j c p q) =
+made-record {L} {s} {k} {b} {s'} ps at m size fit x (leaves-sheet j c p) =
     record {
       sized = size;
       all-fit = fit;
@@ -166,7 +143,6 @@ made-record {L} {s} {k} {b} {s'} ps at m size fit x (leaves-sheet j c p q) =
       variables = variables-more _ _ _ _ ps _ (x .types-kept) (m .variables);
       masks = masks-more _ (m .masks);
       forbidden = forbidden-more ps at j c p (m .forbidden);
-      returned = returned-more ps at j c q (m .returned);
     }
 
 pub made-next : (L : ℕ) (s : Sheet) (ps : List (ℕ × Record)) (at : ℕ) (r : Record) → Made L s ps → WellFormed L s r

@@ -3,7 +3,7 @@
 use mathlib.Core.Path.{_≡_}
 use mathlib.Core.Logic.{_↔_, _⊎_}
 use mathlib.Core.List.{List, [], _∷_, List·Memᴰ}
-use Prim.Native.Nat.{ℕ, _+_, _*_, _/_, _%_, _^_, _<_, _≤_}
+use Prim.Native.Nat.{ℕ, _+_, _*_, _%_, _^_, _<_, _≤_}
 use lib.ListN.{getD, take, drop}
 use Rattle.words.specs.Words.{bit}
 use Rattle.layout.specs.Layout.{fieldsOf, bodyLength}
@@ -77,20 +77,6 @@ pub record Forbidden (L forbidden : ℕ) (ps : List (ℕ × Record)) : Type 0 wh
   -- a label is forbidden exactly where a record says so
   pub forbidden-record : (l : ℕ) → (bit forbidden l ≡ 1) ↔ Among 3 (l ∷ []) ps
 
--- a return in scope k hands back v: the guest's bag in scope 3, else by a record
-abbrev pub HandsBack : List (ℕ × Record) → ℕ → ℕ → Type 0
-HandsBack ps k v = ((k ≡ 3) × (v ≡ 1)) ⊎ Among 23 (k ∷ v ∷ []) ps
-
--- the words hold, of each label below L, the variables v for which R says so
-abbrev pub Hold : ℕ → List ℕ → (ℕ → ℕ → Type 0) → Type 0
-Hold L words R = (k v : ℕ) → k < L → v < 256 → (bit (getD words (4 * k + v / 64) 0) (v % 64) ≡ 1) ↔ R k v
-
-pub record Returned (L : ℕ) (returned : List ℕ) (ps : List (ℕ × Record)) : Type 0 where
-  -- an entry is a word
-  pub word-below : (i : ℕ) → getD returned i 0 < 2 ^ 64
-  -- a variable is among those returned exactly where it is handed back
-  pub returned-record : Hold L returned (HandsBack ps)
-
 -- s is the sheet that the records ps make
 pub record Made (L : ℕ) (s : Sheet) (ps : List (ℕ × Record)) : Type 0 where
   pub sized : Sized L s
@@ -101,7 +87,6 @@ pub record Made (L : ℕ) (s : Sheet) (ps : List (ℕ × Record)) : Type 0 where
   pub variables : Variables (s .types) (s .owners) (s .names) ps
   pub masks : Masks (s .masks) ps
   pub forbidden : Forbidden L (s .forbidden) ps
-  pub returned : Returned L (s .returned) ps
 
 -- and no function label is left without its function
 pub record Ready (L : ℕ) (s : Sheet) (ps : List (ℕ × Record)) : Type 0 where

@@ -7,7 +7,7 @@ use Prim.Native.Nat.{ℕ, _<_}
 use lib.ListN.{getD, drop}
 use lib.Dec.{eqb}
 use Rattle.layout.specs.Layout.{fieldsOf, bodyLength}
-use Rattle.format.specs.Sheet.{Sheet, known, declared, withMask, withLabel, withForbidden, withFunction, withVariable, withReturned}
+use Rattle.format.specs.Sheet.{Sheet, known, declared, withMask, withLabel, withForbidden, withFunction, withVariable}
 use Rattle.format.specs.Fields.{Fits, firstBad}
 
 -- "one byte of kind, then a body"
@@ -41,8 +41,7 @@ after s k b =
     (cond (eqb k 3) (withForbidden s (field b 0))
     (cond (eqb k 4) (withFunction s (field b 0) (drop 1 b))
     (cond (eqb k 5) (withVariable s (field b 0) (field b 1) (field b 2))
-    (cond (eqb k 23) (withReturned s (field b 0) (field b 1))
-    s)))))
+    s))))
 
 -- a record that may stand where the records before it made the sheet s
 pub record WellFormed (L : ℕ) (s : Sheet) (r : Record) : Type 0 where

@@ -2,7 +2,7 @@
 -- Assumes nothing.
 use mathlib.Core.List.{List, [], _∷_, _++_}
 use mathlib.Core.Bool.{Bool, not}
-use Prim.Native.Nat.{ℕ, _+_, _-_, _*_, _/_, _%_, _^_}
+use Prim.Native.Nat.{ℕ, _-_, _*_, _^_}
 use lib.ListN.{getD, set, replicate}
 use lib.Seq.{paste}
 use lib.Dec.{eqb}
@@ -16,12 +16,11 @@ pub record Sheet : Type 0 where
   pub masks : List ℕ  -- of each name its class mask, 0 where no record gives one
   pub owners : List ℕ  -- of each variable its owner scope, 1 where it is not declared
   pub names : List ℕ  -- of each variable its name, 255 for none
-  pub returned : List ℕ  -- of each label four words: the variables that returns in its scope hand back
   pub forbidden : ℕ  -- the forbidden labels, bit l for label l
 
 -- "0 global object, 1 Object.prototype, 2 Function.prototype, 3 whatever the guest makes, 4 Array.prototype. These are declared
--- beforehand; 1, 2, 4 are built-in; 3 is a function, all four others plain." "Function 3 has 1 as this and all formals", and the guest
--- returns variable 1: bit 1 of the first of label 3's four words. No scope is label 1, so that owner stands for "not declared".
+-- beforehand; 1, 2, 4 are built-in; 3 is a function, all four others plain." "Function 3 has 1 as this and all formals". No scope is label 1,
+-- so that owner stands for "not declared".
 unfoldable pub start : ℕ → Sheet
 start L = record {
   types = (1 ∷ 1 ∷ 1 ∷ 2 ∷ 1 ∷ []) ++ replicate (L - 5) 0;
@@ -31,7 +30,6 @@ start L = record {
   masks = replicate 32 0;
   owners = replicate 256 1;
   names = replicate 256 255;
-  returned = set (replicate (4 * L) 0) 12 2;
   forbidden = 0;
 }
 
@@ -70,7 +68,6 @@ withMask s n m = record {
   masks = set (s .masks) n m;
   owners = s .owners;
   names = s .names;
-  returned = s .returned;
   forbidden = s .forbidden;
 }
 
@@ -84,7 +81,6 @@ withLabel s l t f = record {
   masks = s .masks;
   owners = s .owners;
   names = s .names;
-  returned = s .returned;
   forbidden = s .forbidden;
 }
 
@@ -98,7 +94,6 @@ withForbidden s l = record {
   masks = s .masks;
   owners = s .owners;
   names = s .names;
-  returned = s .returned;
   forbidden = union (s .forbidden) (2 ^ l);
 }
 
@@ -112,7 +107,6 @@ withFunction s l vs = record {
   masks = s .masks;
   owners = s .owners;
   names = s .names;
-  returned = s .returned;
   forbidden = s .forbidden;
 }
 
@@ -126,22 +120,5 @@ withVariable s v k n = record {
   masks = s .masks;
   owners = set (s .owners) v k;
   names = set (s .names) v n;
-  returned = s .returned;
   forbidden = s .forbidden;
 }
-
--- kind 23: variable v is among those returned in scope k
-abbrev pub withReturned : Sheet → ℕ → ℕ → Sheet
-withReturned s k v =
-    let place = 4 * k + v / 64 in
-    record {
-      types = s .types;
-      flags = s .flags;
-      defined = s .defined;
-      formals = s .formals;
-      masks = s .masks;
-      owners = s .owners;
-      names = s .names;
-      returned = set (s .returned) place (union (getD (s .returned) place 0) (2 ^ (v % 64)));
-      forbidden = s .forbidden;
-    }

@@ -1,7 +1,7 @@
 -- What the engine goes by beside the table: the labels of functions and of built-in objects, the names of each class, the formals of functions and the
 -- variables that they hand back, as words. Assumes nothing.
 use mathlib.Core.Path.{_≡_}
-use mathlib.Core.Logic.{_↔_}
+use mathlib.Core.Logic.{_⊎_, _↔_}
 use mathlib.Core.List.{List, List·Memᴰ}
 use mathlib.Core.Bool.{Bool, true, cond}
 use Prim.Native.Nat.{ℕ, _+_, _-_, _*_, _/_, _%_, _^_, _<_}
@@ -66,3 +66,11 @@ ReturnsOf p r = (f x : ℕ) → isFunction (p .sheet) f ≡ true → ((x < 256) 
 -- what function f hands back: the labels of the variables that it returns
 abbrev pub handedBack : Returns → Table → ℕ → ℕ → Type 0
 handedBack r t f m = (x : ℕ) × (x < 256) × HandsBack r f x × Has t x m
+
+
+-- r is `start` with the labels of the variables that the f-th function of the array ws returns
+pub record Handing (ws : List ℕ) (f : ℕ) (t : Table) (start r : ℕ) : Type 0 where
+  pub source : (m : ℕ) → bit r m ≡ 1
+      → (bit start m ≡ 1) ⊎ ((x : ℕ) × (x < 256) × (bit (returnedWord ws f (x / 64)) (x % 64) ≡ 1) × Has t x m)
+  pub keeps : (m : ℕ) → bit start m ≡ 1 → bit r m ≡ 1
+  pub all : (x m : ℕ) → x < 256 → bit (returnedWord ws f (x / 64)) (x % 64) ≡ 1 → Has t x m → bit r m ≡ 1

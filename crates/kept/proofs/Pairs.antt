@@ -5,10 +5,10 @@ use mathlib.Core.List.{List}
 use Prim.Native.Nat.{ℕ, zero, suc, _+_, _*_, _≤_, _<_}
 use native.Mathlib.Decide.{ℕ-discrete}
 use native.Mathlib.Omega.{arith}
+use lib.Bits.{bitAnd}
 use lib.Dec.{eqb}
 use lib.ListN.{getD}
 use borrow.Author.Tests.{eqb-true}
-use lib.Bits.{bitAnd}
 use Rattle.words.specs.Words.{bit, union, difference}
 use Rattle.words.proofs.Laws.{bit-small, bit-zero, bit-difference}
 use Rattle.rows.specs.Edition.{words}

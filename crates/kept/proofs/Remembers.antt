@@ -87,14 +87,19 @@ module _ {wide : Bool} {o : ℕ} {p : Program} where
   pub remembers-none : {old t keeps : List ℕ} → ((i : ℕ) → getD keeps i 0 ≡ 0) → Remembers wide o p old t keeps
   remembers-none {keeps = keeps} z = record { pair = λ q j. (let e = kept-none wide keeps q z in promise-none (e .0) (e .1)) }
 
+  -- a pair whose slot is known
+  pub promised : {pair : ℕ} {slot : Slot} {old t keeps : List ℕ} → slotOf pair ≡ slot → pair < pairCount wide → Remembers wide o p old t keeps
+      → Promise wide o p slot old t (keptSet wide keeps pair) (keptWith wide keeps pair)
+  promised {pair} e i h = rw (← e) (h .pair pair i)
+
   module _ {old t before after : List ℕ} where
     -- a pair was set
-    pub remembers-set : {pair s v : ℕ} → Promise wide o p (slotOf pair) old t s v → Refreshed wide pair s v before after → Remembers wide o p old t before
-        → Remembers wide o p old t after
-    remembers-set {pair} {s} {v} new r h = record { pair = λ q j. go q j (ℕ-discrete q pair) }
+    pub remembers-set : {pair s v : ℕ} {slot : Slot} → slotOf pair ≡ slot → Promise wide o p slot old t s v → Refreshed wide pair s v before after
+        → Remembers wide o p old t before → Remembers wide o p old t after
+    remembers-set {pair} {s} {v} e new r h = record { pair = λ q j. go q j (ℕ-discrete q pair) }
       where
         go : (q : ℕ) → q < pairCount wide → Dec (q ≡ pair) → Promise wide o p (slotOf q) old t (keptSet wide after q) (keptWith wide after q)
-        go q j (yes e) = rw (e, r .labels, r .with) new
+        go q j (yes d) = rw (d, e, r .labels, r .with) new
         go q j (no d) = let stays = r .others q d in rw (stays .0, stays .1) (h .pair q j)
 
     pub remembers-forgets : ((q : ℕ) → q < pairCount wide → Forgets wide before after q) → Remembers wide o p old t before → Remembers wide o p t t after

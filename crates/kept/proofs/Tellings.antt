@@ -1,21 +1,21 @@
 -- What is told for a set of labels by a pair that is a union: the kept set is part of the set, or its union is held already, or the pair is of no use.
 -- Assumes nothing.
-use mathlib.Core.Path.{_≡_, subst}
-use mathlib.Core.Logic.{_⊎_, inl, inr, ⊎-elim}
-use mathlib.Core.Bool.{Bool, true, false}
+use mathlib.Core.Path.{_≡_}
+use mathlib.Core.Logic.{inl, inr, ⊎-elim}
+use mathlib.Core.Bool.{Bool, true}
 use mathlib.Core.List.{List}
 use Prim.Native.Nat.{ℕ, _<_}
 use lib.Bits.{or-zero-l}
 use Rattle.words.specs.Words.{union, difference}
-use Rattle.words.proofs.Bits.{On, Subset, empty-off, on-union, on-left, on-right, on-difference, difference-on}
+use Rattle.words.proofs.Bits.{Subset, on-union, on-left, on-right, on-difference, difference-on}
 use Rattle.rules.specs.Table.{Table}
 use Rattle.program.specs.Program.{Program}
-use Rattle.uses.specs.Use.{tableOf, Since}
+use Rattle.uses.specs.Use.{tableOf}
 use Rattle.uses.specs.Gather.{Gathered}
-use Rattle.kept.specs.Pairs.{pairCount, keptSet, keptWith, Asks, part, held, all, Answers, Refreshed}
+use Rattle.kept.specs.Pairs.{pairCount, keptSet, keptWith, Asks, part, held, all, Answers}
 use Rattle.kept.specs.Promise.{Slot, slotOf, Tells, Unites, Union, Promise, Remembers, Answer, Tellings}
 use Rattle.kept.proofs.Pairs.{never}
-use Rattle.kept.proofs.Remembers.{tells-monotone, takes-nothing, remembers-set}
+use Rattle.kept.proofs.Remembers.{tells-monotone, takes-nothing, promised, remembers-set}
 
 -- there is room for an answer that may be kept
 pub asks-room : {wide fresh : Bool} {keeps : List ℕ} {pair s have base rest : ℕ} → Asks wide keeps pair s have base rest fresh → fresh ≡ true
@@ -67,7 +67,7 @@ tellings {wide} {fresh} {pair} {s} {have} {base} {rest} {more} {r} {before} {aft
 
     -- what the pair has
     kept : pair < pairCount wide → Unites wide p slot old t (keptSet wide before pair) (keptWith wide before pair)
-    kept i = subst (λ (x : Slot). Promise wide o p x old t (keptSet wide before pair) (keptWith wide before pair)) (here i) (remembers .pair pair i) .union looked
+    kept i = promised (here i) i remembers .union looked
 
     -- the whole union, which may have been kept
     whole : {fresh : Bool} → Unites wide p slot old t s r → Answers wide pair s base more r fresh before after
@@ -75,7 +75,7 @@ tellings {wide} {fresh} {pair} {s} {have} {base} {rest} {more} {r} {before} {aft
     whole g a =
         let promise : Promise wide o p slot old t s r = record { union = λ _. g; meet = λ l q m i takes. absurd (takes-nothing wide p slot l q looked takes) } in (
           record { source = g .source; all = λ l m i j. inl (g .all l m i j) },
-          ⊎-elim (λ e. rw e remembers) (λ e. remembers-set (rw (here (e .1)) promise) (e .2) remembers) (a .left),
+          ⊎-elim (λ e. rw e remembers) (λ e. remembers-set (here (e .1)) promise (e .2) remembers) (a .left),
         )
 
     go : {fresh : Bool} → Asks wide before pair s have base rest fresh → Gathered (Tells wide p slot) (tableOf wide t) (tableOf wide t) rest more

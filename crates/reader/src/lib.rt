@@ -1,8 +1,8 @@
 // Reads a statement file: a loop over the records with a loop over each record's fields, left at the first refusal (document 01, "What each
-// operation says no to", without 8, which is about the table).
+// operation says no to", without 8, which is about the table). `wide` says which edition it is, of 256 labels or of 64.
 use sheet::Sheet;
 ghost use mathlib.Core.Path.{_≡_};
-ghost use Prim.Native.Nat.{_<_};
+ghost use Rattle.rows.specs.Edition.{labels};
 ghost use Rattle.sheet.specs.View.{sheetOf};
 ghost use Rattle.format.specs.Sheet.{start};
 ghost use Rattle.format.specs.Reading.{readFrom, readFile};
@@ -14,15 +14,18 @@ pub struct Reading {
     pub position: usize,
 }
 
+// The kinds below this one declare something, and the sheet takes their records; the others leave it as it is, and it is not copied for them.
+const GRANT: u8 = 6;
+
 // The records in order.
-fn read_records(file: &[u8]) -> Reading
-    ensures { λ r. ⌜ sheetOf (r .sheet) ≡ readFrom 64 (start 64) 0 (now (file .entry)) .sheet ⌝ }
-    ensures { λ r. ⌜ r .refusal ≡ readFrom 64 (start 64) 0 (now (file .entry)) .refusal ⌝ }
-    ensures { λ r. ⌜ r .position ≡ readFrom 64 (start 64) 0 (now (file .entry)) .position ⌝ }
+fn read_records(file: &[u8], wide: bool) -> Reading
+    ensures { λ r. ⌜ sheetOf wide (r .sheet) ≡ readFrom (labels wide) (start (labels wide)) 0 (now (file .entry)) .sheet ⌝ }
+    ensures { λ r. ⌜ r .refusal ≡ readFrom (labels wide) (start (labels wide)) 0 (now (file .entry)) .refusal ⌝ }
+    ensures { λ r. ⌜ r .position ≡ readFrom (labels wide) (start (labels wide)) 0 (now (file .entry)) .position ⌝ }
 {
     let lengths = layout::lengths();
     let classes = layout::classes();
-    let mut sheet = sheet::fresh();
+    let mut sheet = sheet::fresh(wide);
     let mut refusal: u8 = 0;
     let mut at: usize = 0;
     let position = 'records: loop {
@@ -48,15 +51,15 @@ fn read_records(file: &[u8]) -> Reading
         let body = &file[at + 1..at + 1 + n];
         let mut j: usize = 0;
         'fields: while j < n {
-            let bad = fields::field_refusal(&sheet.types, &sheet.owners, row[j], body[j]);
+            let bad = fields::field_refusal(wide, &sheet.types, &sheet.owners, row[j], body[j]);
             if bad != 0 {
                 refusal = bad;
                 break 'records at; // the kind byte's position
             }
             j += 1;
         }
-        if sheet::is_declaration(kind) {
-            let taken = sheet.take(kind, body);
+        if kind < GRANT {
+            let taken = sheet.take(wide, kind, body);
             let no = taken.refusal;
             if no != 0 {
                 refusal = no;
@@ -65,9 +68,6 @@ fn read_records(file: &[u8]) -> Reading
             let next = taken.sheet;
             sheet = next;
         }
-        let forbidden = sheet::mark_forbidden(sheet.forbidden, kind, body);
-        sheet.forbidden = forbidden;
-        sheet::mark_returned(&mut sheet.returned, kind, body);
         at = at + 1 + n;
     };
     Reading {
@@ -78,25 +78,25 @@ fn read_records(file: &[u8]) -> Reading
 }
 
 // A whole file: not too long, its records in order, and then no function left without its record.
-pub fn read(file: &[u8]) -> Reading
-    ensures { λ r. ⌜ sheetOf (r .sheet) ≡ readFile 64 (now (file .entry)) .sheet ⌝ }
-    ensures { λ r. ⌜ r .refusal ≡ readFile 64 (now (file .entry)) .refusal ⌝ }
-    ensures { λ r. ⌜ r .position ≡ readFile 64 (now (file .entry)) .position ⌝ }
+pub fn read(file: &[u8], wide: bool) -> Reading
+    ensures { λ r. ⌜ sheetOf wide (r .sheet) ≡ readFile (labels wide) (now (file .entry)) .sheet ⌝ }
+    ensures { λ r. ⌜ r .refusal ≡ readFile (labels wide) (now (file .entry)) .refusal ⌝ }
+    ensures { λ r. ⌜ r .position ≡ readFile (labels wide) (now (file .entry)) .position ⌝ }
 {
     if 32768 < file.len() {
         return Reading {
-            sheet: sheet::fresh(),
+            sheet: sheet::fresh(wide),
             refusal: 9,
             position: 0,
         };
     }
-    let r = read_records(file);
+    let r = read_records(file, wide);
     let no = r.refusal;
     if no != 0 {
         return r;
     }
     let sheet = r.sheet;
-    if sheet::is_complete(&sheet.types, &sheet.defined) {
+    if sheet.is_complete(wide) {
         return r;
     }
     let position = r.position;

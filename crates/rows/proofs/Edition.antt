@@ -16,3 +16,7 @@ pub words-narrow : {n : ℕ} (wide : Bool) → wide ≡ false → n ≡ rowCount
 words-narrow {n} wide e h =
     let f : n ≡ rowCount (labels false) = rw e at h in
     rw e (omega arith, omega arith)
+
+pub labels-small : (wide : Bool) → labels wide ≤ 256
+labels-small true = omega arith
+labels-small false = omega arith

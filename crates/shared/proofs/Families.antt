@@ -4,14 +4,17 @@ use mathlib.Core.Bool.{Bool, true, false}
 use mathlib.Core.List.{List}
 use Prim.Native.Nat.{ℕ, _+_, _*_, _<_}
 use native.Mathlib.Omega.{arith}
+use Rattle.words.proofs.Bits.{On, on-difference}
 use Rattle.rows.specs.Edition.{labels}
 use Rattle.rows.specs.Row.{Key, number, chain, thrown}
 use Rattle.rules.specs.Table.{Table}
 use Rattle.program.specs.Program.{Program}
 use Rattle.uses.specs.Gather.{rowFrom, underNames, Gathered}
 use Rattle.uses.specs.Spread.{namedRows}
-use Rattle.kept.specs.Promise.{chains, throws, under, stored, Tells, Takes}
-use Rattle.host.specs.Lays.{namesIn, Lays}
+use Rattle.kept.specs.Pairs.{keptSet, Asks, part, held, all}
+use Rattle.kept.specs.Promise.{chains, throws, handed, under, stored, Tells, Takes}
+use Rattle.host.specs.Lays.{namesIn, Lays, Returns, ReturnsOf, Functions, handedBack}
+use Rattle.host.proofs.Returns.{handed-returned, returned-handed}
 use Rattle.shared.proofs.Applied.{gathered-for}
 
 pub labels-some : (wide : Bool) → 0 < labels wide
@@ -43,3 +46,15 @@ module _ (wide : Bool) (p : Program) {host : List ℕ} (key names : ℕ) (lays :
 
   pub takes-named : Takes wide p (stored key) l r → namedRows names l r
   takes-named h = (h .0, rw e (lays .names key (h .0) k .1 (h .1)), h .2)
+
+-- what functions hand back
+pub handed-told : {t : Table} {s r : ℕ} (wide : Bool) (p : Program) (a : Returns) → ReturnsOf p a → Functions p s → Gathered (handedBack a) t t s r
+    → Gathered (Tells wide p handed) t t s r
+handed-told {t} wide p a returning functions =
+    gathered-for (λ l m o h. handed-returned p a returning t l m (functions l o) h) (λ l m o h. returned-handed p a returning t l m (functions l o) h)
+
+-- what is left of a set is part of it
+pub rest-part : {wide fresh : Bool} {keeps : List ℕ} {pair s have base rest : ℕ} → Asks wide keeps pair s have base rest fresh → (l : ℕ) → On rest l → On s l
+rest-part {wide} {keeps = keeps} {pair = pair} {s = s} (part i a b e) l h = on-difference s (keptSet wide keeps pair) l (rw e at h)
+rest-part {wide} {keeps = keeps} {pair = pair} {s = s} (held i a b e) l h = on-difference s (keptSet wide keeps pair) l (rw e at h)
+rest-part (all i b e) l h = rw e at h

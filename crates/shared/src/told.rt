@@ -66,6 +66,28 @@ pub fn told_under(
     kept::answer(keeps, wide, pair, s, asked, more)
 }
 
+// What the functions of s hand back.
+fn told_handed(
+    t: &[u64],
+    wide: bool,
+    first: &[u64; 256],
+    second: &[u64; 256],
+    third: &[u64; 256],
+    fourth: &[u64; 256],
+    keeps: &mut [u64; 256],
+    s: Set,
+    have: Set,
+) -> Set
+    requires { ⌜ wordCount wide ≤ length (now t) ⌝ }
+    ensures { λ r. ⌜ ((p : Program) → ReturnsOf p (record { first = now (first .entry); second = now (second .entry); third = now (third .entry); fourth = now (fourth .entry) }) → Functions p (value wide s) → Tellings wide p handed (now (t .entry)) (value wide s) (value wide have) (value wide r) (now (keeps .entry)) (now (keeps .exit))) ⌝ }
+{
+    let pair = kept::HANDED;
+    let asked = kept::ask(keeps, wide, pair, s, have);
+    let rest = asked.rest;
+    let more = host::handed::gather_handed(t, wide, first, second, third, fourth, rest);
+    kept::answer(keeps, wide, pair, s, asked, more)
+}
+
 // What the labels of s hold under a key, into row y.
 pub fn look_up(
     t: &mut [u64],
@@ -101,4 +123,26 @@ pub fn throw_on(
     let have = lent::row(t, o, wide, y);
     let more = told_throws(t, wide, keeps, s, have);
     lent::join(t, o, wide, y, more)
+}
+
+// What the functions of s hand back, into S(y).
+pub fn hand_back(
+    t: &mut [u64],
+    o: usize,
+    wide: bool,
+    first: &[u64; 256],
+    second: &[u64; 256],
+    third: &[u64; 256],
+    fourth: &[u64; 256],
+    keeps: &mut [u64; 256],
+    y: Var,
+    s: Set,
+) -> bool
+    requires { ⌜ Lent wide o (length (now t)) ⌝ }
+    ensures { λ grew. ⌜ ((p : Program) → ReturnsOf p (record { first = now (first .entry); second = now (second .entry); third = now (third .entry); fourth = now (fourth .entry) }) → Functions p (value wide s) → Applies wide o p (gathering wide p (y .0) handed (value wide s)) (now (t .entry)) (now (keeps .entry)) (now (t .exit)) (now (keeps .exit)) grew) ⌝ }
+{
+    let r = y.row();
+    let have = lent::row(t, o, wide, r);
+    let more = told_handed(t, wide, first, second, third, fourth, keeps, s, have);
+    lent::join(t, o, wide, r, more)
 }

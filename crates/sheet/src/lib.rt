@@ -1,36 +1,49 @@
-// The declaration sheet of the small edition (64 labels), a struct of arrays that takes one record after the other (document 01, "Table and
-// sheet"). What may be declared once only (names, labels, functions, variables) makes a new sheet by
-// value; forbids and returns, of which a file may have thousands, are marked in place.
+// The declaration sheet, a struct of arrays that takes one record and becomes the next sheet (document 01, "Table and sheet"). One sheet serves
+// both editions: its arrays are those of 256 labels, and where `wide` is false the entries of the first 64 count.
+use rows::Label;
+use sets::Set;
 ghost use mathlib.Core.Path.{_≡_};
-ghost use mathlib.Core.Bool.{cond, not};
-ghost use Prim.Native.Nat.{_<_};
+ghost use mathlib.Core.Bool.{not};
+ghost use Prim.Native.Nat.{_*_, _<_};
 ghost use lib.ListN.{getD, length};
+ghost use lib.Seq.{paste};
+ghost use Rattle.rows.specs.Edition.{labels};
 ghost use Rattle.layout.specs.Layout.{fieldsOf};
 ghost use Rattle.format.specs.Sheet.{start};
 ghost use Rattle.format.specs.Fields.{Fits};
 ghost use Rattle.format.specs.Records.{wholeRefusal};
 ghost use Rattle.format.specs.Reading.{lacking};
-ghost use Rattle.sheet.specs.View.{sheetOf, handedBack, declares, withFormals, forbidding, returning};
+ghost use Rattle.sheet.specs.View.{sheetOf, handedBack};
+
+const LABELS: usize = 256;
+
+const NAMES: usize = 32;
+
+const VARIABLES: usize = 256;
+
+// This and six formals.
+const SEVEN: usize = 7;
+
+// Seven for each label.
+const FORMALS: usize = 1792;
 
 pub struct Sheet {
     // of each label: 0 not declared, 1 plain, 2 function, 3 array
-    pub types: [u8; 64],
+    pub types: [u8; LABELS],
     // of each label: 1 built-in
-    pub flags: [u8; 64],
+    pub flags: [u8; LABELS],
     // of each label: 1 where its function is known
-    pub defined: [u8; 64],
+    pub defined: [u8; LABELS],
     // of each label seven variables: this, then six formals
-    pub formals: [u8; 448],
+    pub formals: [u8; FORMALS],
     // of each name its class mask, 0 where no record gives one
-    pub masks: [u8; 32],
+    pub masks: [u8; NAMES],
     // of each variable its owner scope, 1 where it is not declared
-    pub owners: [u8; 256],
+    pub owners: [u8; VARIABLES],
     // of each variable its name, 255 for none
-    pub names: [u8; 256],
-    // of each label four words: the variables that returns in its scope hand back
-    pub returned: [u64; 256],
-    // the forbidden labels, bit l for label l
-    pub forbidden: u64,
+    pub names: [u8; VARIABLES],
+    // the forbidden labels
+    pub forbidden: Set,
 }
 
 // The next sheet, or the sheet as it was and the number of the refusal; 0 is ok.
@@ -40,54 +53,52 @@ pub struct Taken {
 }
 
 // The sheet before the first record.
-pub fn fresh() -> Sheet
-    ensures { λ r. ⌜ sheetOf r ≡ start 64 ⌝ }
+pub fn fresh(wide: bool) -> Sheet
+    ensures { λ r. ⌜ sheetOf wide r ≡ start (labels wide) ⌝ }
 {
-    let mut types = [0u8; 64];
+    let mut types = [0u8; LABELS];
     types[0] = 1;
     types[1] = 1;
     types[2] = 1;
     types[3] = 2;
     types[4] = 1;
-    let mut flags = [0u8; 64];
+    let mut flags = [0u8; LABELS];
     flags[1] = 1;
     flags[2] = 1;
     flags[4] = 1;
-    let mut defined = [0u8; 64];
+    let mut defined = [0u8; LABELS];
     defined[3] = 1;
-    let mut returned = [0u64; 256];
-    returned[12] = 2;
     Sheet {
         types,
         flags,
         defined,
-        formals: [1u8; 448],
-        masks: [0u8; 32],
-        owners: [1u8; 256],
-        names: [255u8; 256],
-        returned,
-        forbidden: 0,
+        formals: [1u8; FORMALS],
+        masks: [0u8; NAMES],
+        owners: [1u8; VARIABLES],
+        names: [255u8; VARIABLES],
+        forbidden: sets::none(wide),
     }
 }
 
-// The kinds of which nothing may stand twice.
-pub fn is_declaration(kind: u8) -> bool
-    ensures { λ r. ⌜ r ≡ declares kind ⌝ }
+// The formals with the seven variables of function l. (Behind a reference an array does not tell its length, so the caller does.)
+fn fill(formals: &mut [u8; FORMALS], l: usize, seven: &[u8])
+    requires { ⌜ (l < 256) × (length (now formals) ≡ 7 * 256) × (length (now seven) ≡ 7) ⌝ }
+    ensures { λ _. ⌜ now (formals .exit) ≡ paste (now (formals .entry)) (7 * l) (now (seven .entry)) 7 ⌝ }
 {
-    fields::either(
-        kind == 1,
-        fields::either(kind == 2, fields::either(kind == 4, kind == 5)),
-    )
+    let at = SEVEN * l;
+    for j in 0..SEVEN {
+        formals[at + j] = seven[j];
+    }
 }
 
 impl Sheet {
     // Kind 1: n, class mask.
-    fn take_name(mut self, body: &[u8]) -> Taken
+    fn take_name(mut self, wide: bool, body: &[u8]) -> Taken
         requires { ⌜ (length (now body) ≡ 2) × (getD (now body) 0 0 < 32) ⌝ }
-        ensures { λ r. ⌜ r .refusal ≡ wholeRefusal (sheetOf self) 1 (now (body .entry)) ⌝ }
-        ensures { λ r. ⌜ sheetOf (r .sheet) ≡ handedBack (sheetOf self) 1 (now (body .entry)) ⌝ }
+        ensures { λ r. ⌜ r .refusal ≡ wholeRefusal (sheetOf wide self) 1 (now (body .entry)) ⌝ }
+        ensures { λ r. ⌜ sheetOf wide (r .sheet) ≡ handedBack (sheetOf wide self) 1 (now (body .entry)) ⌝ }
     {
-        let n = body[0] as usize;
+        let n = fields::index(body[0]);
         if self.masks[n] != 0 {
             return Taken {
                 sheet: self,
@@ -102,12 +113,12 @@ impl Sheet {
     }
 
     // Kind 2: l, type, flag.
-    fn take_label(mut self, body: &[u8]) -> Taken
-        requires { ⌜ (length (now body) ≡ 3) × (getD (now body) 0 0 < 64) ⌝ }
-        ensures { λ r. ⌜ r .refusal ≡ wholeRefusal (sheetOf self) 2 (now (body .entry)) ⌝ }
-        ensures { λ r. ⌜ sheetOf (r .sheet) ≡ handedBack (sheetOf self) 2 (now (body .entry)) ⌝ }
+    fn take_label(mut self, wide: bool, body: &[u8]) -> Taken
+        requires { ⌜ (length (now body) ≡ 3) × (getD (now body) 0 0 < labels wide) ⌝ }
+        ensures { λ r. ⌜ r .refusal ≡ wholeRefusal (sheetOf wide self) 2 (now (body .entry)) ⌝ }
+        ensures { λ r. ⌜ sheetOf wide (r .sheet) ≡ handedBack (sheetOf wide self) 2 (now (body .entry)) ⌝ }
     {
-        let l = body[0] as usize;
+        let l = fields::index(body[0]);
         if self.types[l] != 0 {
             return Taken {
                 sheet: self,
@@ -122,13 +133,49 @@ impl Sheet {
         }
     }
 
-    // Kind 5: v, owner scope, name.
-    fn take_variable(mut self, body: &[u8]) -> Taken
-        requires { ⌜ (length (now body) ≡ 3) × (getD (now body) 0 0 < 256) ⌝ }
-        ensures { λ r. ⌜ r .refusal ≡ wholeRefusal (sheetOf self) 5 (now (body .entry)) ⌝ }
-        ensures { λ r. ⌜ sheetOf (r .sheet) ≡ handedBack (sheetOf self) 5 (now (body .entry)) ⌝ }
+    // Kind 3: l.
+    fn take_forbid(mut self, wide: bool, body: &[u8]) -> Taken
+        requires { ⌜ (length (now body) ≡ 1) × (getD (now body) 0 0 < labels wide) ⌝ }
+        ensures { λ r. ⌜ r .refusal ≡ wholeRefusal (sheetOf wide self) 3 (now (body .entry)) ⌝ }
+        ensures { λ r. ⌜ sheetOf wide (r .sheet) ≡ handedBack (sheetOf wide self) 3 (now (body .entry)) ⌝ }
     {
-        let v = body[0] as usize;
+        let forbidden = self.forbidden;
+        let more = sets::union(wide, forbidden, sets::single(wide, Label(body[0])));
+        self.forbidden = more;
+        Taken {
+            sheet: self,
+            refusal: 0,
+        }
+    }
+
+    // Kind 4: l, this variable, six formals.
+    fn take_function(mut self, wide: bool, body: &[u8]) -> Taken
+        requires { ⌜ (length (now body) ≡ 8) × (getD (now body) 0 0 < labels wide) ⌝ }
+        ensures { λ r. ⌜ r .refusal ≡ wholeRefusal (sheetOf wide self) 4 (now (body .entry)) ⌝ }
+        ensures { λ r. ⌜ sheetOf wide (r .sheet) ≡ handedBack (sheetOf wide self) 4 (now (body .entry)) ⌝ }
+    {
+        let l = fields::index(body[0]);
+        if self.defined[l] != 0 {
+            return Taken {
+                sheet: self,
+                refusal: 6,
+            };
+        }
+        self.defined[l] = 1;
+        fill(&mut self.formals, l, &body[1..]);
+        Taken {
+            sheet: self,
+            refusal: 0,
+        }
+    }
+
+    // Kind 5: v, owner scope, name.
+    fn take_variable(mut self, wide: bool, body: &[u8]) -> Taken
+        requires { ⌜ (length (now body) ≡ 3) × (getD (now body) 0 0 < 256) ⌝ }
+        ensures { λ r. ⌜ r .refusal ≡ wholeRefusal (sheetOf wide self) 5 (now (body .entry)) ⌝ }
+        ensures { λ r. ⌜ sheetOf wide (r .sheet) ≡ handedBack (sheetOf wide self) 5 (now (body .entry)) ⌝ }
+    {
+        let v = fields::index(body[0]);
         let owner = body[1];
         let name = body[2];
         if fields::both(owner != 0, name != 255) {
@@ -151,111 +198,34 @@ impl Sheet {
         }
     }
 
-    // Kind 4: l, this variable, six formals.
-    fn take_function(mut self, body: &[u8]) -> Taken
-        requires { ⌜ (length (now body) ≡ 8) × (getD (now body) 0 0 < 64) ⌝ }
-        ensures { λ r. ⌜ r .refusal ≡ wholeRefusal (sheetOf self) 4 (now (body .entry)) ⌝ }
-        ensures { λ r. ⌜ sheetOf (r .sheet) ≡ handedBack (sheetOf self) 4 (now (body .entry)) ⌝ }
-    {
-        let l = body[0] as usize;
-        if self.defined[l] != 0 {
-            return Taken {
-                sheet: self,
-                refusal: 6,
-            };
-        }
-        self.defined[l] = 1;
-        let next = self.with_formals(l, &body[1..]);
-        Taken {
-            sheet: next,
-            refusal: 0,
-        }
-    }
-
-    // The sheet with the seven variables of function l.
-    fn with_formals(mut self, l: usize, seven: &[u8]) -> Sheet
-        requires { ⌜ (l < 64) × (length (now seven) ≡ 7) ⌝ }
-        ensures { λ r. ⌜ sheetOf r ≡ withFormals (sheetOf self) l (now (seven .entry)) 7 ⌝ }
-    {
-        let at = 7 * l;
-        for j in 0..7usize {
-            self.formals[at + j] = seven[j];
-        }
-        self
-    }
-
-    // A record that declares something: of kind 1, 2, 4 or 5. Its fields are good.
-    pub fn take(self, kind: u8, body: &[u8]) -> Taken
-        requires { ⌜ Fits 64 (sheetOf self) (fieldsOf kind) (now body) ⌝ }
-        ensures { λ r. ⌜ r .refusal ≡ wholeRefusal (sheetOf self) kind (now (body .entry)) ⌝ }
-        ensures { λ r. ⌜ sheetOf (r .sheet) ≡ cond (declares kind) (handedBack (sheetOf self) kind (now (body .entry))) (sheetOf self) ⌝ }
+    // One record, whose fields are good: kinds 1 to 5 declare something, any other leaves the sheet as it is.
+    pub fn take(self, wide: bool, kind: u8, body: &[u8]) -> Taken
+        requires { ⌜ Fits (labels wide) (sheetOf wide self) (fieldsOf kind) (now body) ⌝ }
+        ensures { λ r. ⌜ r .refusal ≡ wholeRefusal (sheetOf wide self) kind (now (body .entry)) ⌝ }
+        ensures { λ r. ⌜ sheetOf wide (r .sheet) ≡ handedBack (sheetOf wide self) kind (now (body .entry)) ⌝ }
     {
         match kind {
-            1 => self.take_name(body),
-            2 => self.take_label(body),
-            4 => self.take_function(body),
-            5 => self.take_variable(body),
+            1 => self.take_name(wide, body),
+            2 => self.take_label(wide, body),
+            3 => self.take_forbid(wide, body),
+            4 => self.take_function(wide, body),
+            5 => self.take_variable(wide, body),
             _ => Taken {
                 sheet: self,
                 refusal: 0,
             },
         }
     }
-}
 
-// The forbidden labels with the label of a forbid record.
-fn forbid(forbidden: u64, body: &[u8]) -> u64
-    requires { ⌜ (length (now body) ≡ 1) × (getD (now body) 0 0 < 64) ⌝ }
-    ensures { λ r. ⌜ r ≡ forbidding forbidden 3 (now (body .entry)) ⌝ }
-{
-    let l = body[0] as usize;
-    words::join(forbidden, words::single(l))
-}
-
-// Kind 3 forbids a label; any other kind none.
-pub fn mark_forbidden(forbidden: u64, kind: u8, body: &[u8]) -> u64
-    requires { ⌜ (kind ≡ 3 → (length (now body) ≡ 1) × (getD (now body) 0 0 < 64)) ⌝ }
-    ensures { λ r. ⌜ r ≡ forbidding forbidden kind (now (body .entry)) ⌝ }
-{
-    if kind == 3 {
-        return forbid(forbidden, body);
-    }
-    forbidden
-}
-
-// The returned variables with the variable of a return record.
-fn note_return(returned: &mut [u64; 256], body: &[u8])
-    requires { ⌜ (length (now body) ≡ 2) × (getD (now body) 0 0 < 64) × (getD (now body) 1 0 < 256) ⌝ }
-    ensures { λ _. ⌜ now (returned .exit) ≡ returning (now (returned .entry)) 23 (now (body .entry)) ⌝ }
-{
-    let k = body[0] as usize;
-    let v = body[1] as usize;
-    let at = 4 * k + v / 64;
-    let all = words::join(returned[at], words::single(v % 64));
-    returned[at] = all;
-}
-
-// Kind 23 returns a variable; any other kind none.
-pub fn mark_returned(returned: &mut [u64; 256], kind: u8, body: &[u8])
-    requires { ⌜ (kind ≡ 23 → (length (now body) ≡ 2) × (getD (now body) 0 0 < 64) × (getD (now body) 1 0 < 256)) ⌝ }
-    ensures { λ _. ⌜ now (returned .exit) ≡ returning (now (returned .entry)) kind (now (body .entry)) ⌝ }
-{
-    if kind == 23 {
-        note_return(returned, body);
-    }
-}
-
-// Every label of type 2 has its function.
-pub fn is_complete<'a>(types: &'a [u8], defined: &'a [u8]) -> bool
-    requires { ⌜ length (now types) ≡ length (now defined) ⌝ }
-    ensures { λ r. ⌜ r ≡ not (lacking (now (types .entry)) (now (defined .entry))) ⌝ }
-{
-    let mut l: usize = 0;
-    while l < types.len() {
-        if fields::both(types[l] == 2, defined[l] == 0) {
-            return false;
+    // Every label of type 2 has its function.
+    pub fn is_complete(self, wide: bool) -> bool
+        ensures { λ r. ⌜ r ≡ not (lacking (sheetOf wide self .types) (sheetOf wide self .defined)) ⌝ }
+    {
+        for l in 0..rows::labels(wide) {
+            if fields::both(self.types[l] == 2, self.defined[l] == 0) {
+                return false;
+            }
         }
-        l += 1;
+        true
     }
-    true
 }

@@ -1,22 +1,37 @@
 -- `fields::field_refusal` meets its contract. Assumes nothing.
+use mathlib.Core.Path.{sym}
+use lib.Seq.{length-take-le}
 use Rattle.fields.specs.Judging.{fieldRefusal}
 use borrow.Author.Needs.{needs}
 use Rattle.fields.proofs.field_refusal.Statement.{statement}
 use Rattle.fields.proofs.field_refusal.Tie as tie
+
+labels-requires : tie.Need-labels-requires
+labels-requires c κs = search needs
+
+slice-aggregate-counted : tie.Need-slice-aggregate-counted
+slice-aggregate-counted c =
+    let e = c .before .labels .ensures .0 in
+    sym (length-take-le (c .before .labels .result) (c .before .before .before .before .args .types .now) (rw (← e) at (c .before .before .before .before .pre)))
 
 is-good-requires : tie.Need-is-good-requires
 is-good-requires c κs = search needs
 
 returns : tie.Need-returns
 unfolding fieldRefusal
-returns c = rw (← c .before .is-good .ensures, c .if1 .taken)
+returns c =
+    let e = rw (c .before .before .before .labels .ensures .0) at (c .before .is-good .ensures) in
+    rw (← e, c .if1 .taken)
 
 refusal-of-requires : tie.Need-refusal-of-requires
 refusal-of-requires c κs = search needs
 
 returns-2 : tie.Need-returns-2
 unfolding fieldRefusal
-returns-2 c = rw (← c .before .before .is-good .ensures, c .before .if1 .left) (c .refusal-of .ensures)
+returns-2 c =
+    let e = rw (c .before .before .before .before .labels .ensures .0) at (c .before .before .is-good .ensures) in
+    rw (← e, c .before .if1 .left) (c .refusal-of .ensures)
 
 pub field-refusal-spec : {M : Type 1} → statement M
-field-refusal-spec = tie.close (tie.spec is-good-requires returns refusal-of-requires returns-2)
+field-refusal-spec =
+    tie.close (tie.spec labels-requires slice-aggregate-counted is-good-requires returns refusal-of-requires returns-2)

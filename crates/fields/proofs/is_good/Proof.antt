@@ -7,6 +7,12 @@ use borrow.Author.Needs.{needs}
 use Rattle.fields.proofs.is_good.Statement.{statement}
 use Rattle.fields.proofs.is_good.Tie as tie
 
+index-requires : tie.Need-index-requires
+index-requires c κs = search needs
+
+labels-requires : tie.Need-labels-requires
+labels-requires c κs = search needs
+
 both-requires : tie.Need-both-requires
 both-requires c κs = search needs
 
@@ -80,7 +86,8 @@ returns-2 c = rw (c .match .keys2)
 
 returns-3 : tie.Need-returns-3
 unfolding good
-returns-3 c = rw (c .before .match .keys3) (c .both .ensures)
+returns-3 c =
+    rw (c .before .before .before .match .keys3) (rw (c .before .before .index .ensures .0, c .before .labels .ensures .0) at (c .both .ensures))
 
 returns-4 : tie.Need-returns-4
 unfolding good
@@ -145,6 +152,8 @@ pub is-good-spec : {M : Type 1} → statement M
 is-good-spec =
     tie.close
     (tie.spec
+    index-requires
+    labels-requires
     both-requires
     both-requires-2
     type-of-requires

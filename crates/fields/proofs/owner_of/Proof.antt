@@ -7,8 +7,8 @@ use borrow.Author.Needs.{needs}
 use Rattle.fields.proofs.owner_of.Statement.{statement}
 use Rattle.fields.proofs.owner_of.Tie as tie
 
-wide-requires : tie.Need-wide-requires
-wide-requires c κs = search needs
+index-requires : tie.Need-index-requires
+index-requires c κs = search needs
 
 shared-slice-read-result : tie.Need-shared-slice-read-result
 shared-slice-read-result c = search needs
@@ -16,7 +16,7 @@ shared-slice-read-result c = search needs
 returns : tie.Need-returns
 returns c =
     let list = c .before .before .before .before .args .owners .now in
-    rw (← c .before .before .wide .ensures .0) (getD-inside list (c .before .before .wide .result) 0 1 (omega arith))
+    rw (← c .before .before .index .ensures .0) (getD-inside list (c .before .before .index .result) 0 1 (omega arith))
 
 returns-2 : tie.Need-returns-2
 returns-2 c =
@@ -24,4 +24,4 @@ returns-2 c =
     sym (List·getD-eq-default list 1 (omega arith))
 
 pub owner-of-spec : {M : Type 1} → statement M
-owner-of-spec = tie.close (tie.spec wide-requires shared-slice-read-result returns returns-2)
+owner-of-spec = tie.close (tie.spec index-requires shared-slice-read-result returns returns-2)

@@ -10,8 +10,8 @@ use borrow.Author.Needs.{needs}
 use Rattle.fields.proofs.refusal_of.Statement.{statement}
 use Rattle.fields.proofs.refusal_of.Tie as tie
 
-wide-requires : tie.Need-wide-requires
-wide-requires c κs = search needs
+index-requires : tie.Need-index-requires
+index-requires c κs = search needs
 
 array-read-result : tie.Need-array-read-result
 array-read-result c = search needs
@@ -20,11 +20,11 @@ returns : tie.Need-returns
 unfolding refusalOf
 returns c =
     let n = c .before .before .args .class in
-    rw (c .before .wide .ensures .0) (getD-inside (map refusalOf classes) n 0 5 (search needs) ∙ List·getD-map refusalOf classes n key)
+    rw (c .before .index .ensures .0) (getD-inside (map refusalOf classes) n 0 5 (search needs) ∙ List·getD-map refusalOf classes n key)
 
 returns-2 : tie.Need-returns-2
 unfolding refusalOf
 returns-2 c = rw (class-rest (c .before .before .args .class) (search needs))
 
 pub refusal-of-spec : {M : Type 1} → statement M
-refusal-of-spec = tie.close (tie.spec wide-requires array-read-result returns returns-2)
+refusal-of-spec = tie.close (tie.spec index-requires array-read-result returns returns-2)

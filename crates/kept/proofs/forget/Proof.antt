@@ -1,6 +1,5 @@
 -- The pairs of unions are emptied; the others stay, and are no unions. Assumes nothing.
 use borrow.Author.Needs.{needs}
-use native.Mathlib.Omega.{arith}
 use Rattle.kept.proofs.Remembers.{remembers-forgets, first-fits, names-fit, forgets-first, forgets-names}
 use Rattle.kept.proofs.forget.Statement.{statement}
 use Rattle.kept.proofs.forget.Tie as tie

@@ -1,6 +1,5 @@
 -- Whether there is room: 32 pairs or 128. Assumes nothing.
 use borrow.Author.Tests.{ltb-true}
-use Rattle.kept.specs.Pairs.{pairCount}
 use Rattle.kept.proofs.is_kept.Statement.{statement}
 use Rattle.kept.proofs.is_kept.Tie as tie
 

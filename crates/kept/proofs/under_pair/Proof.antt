@@ -1,8 +1,6 @@
 -- Classes, the names 1 to 3, and the other names have pairs in different ranges. Assumes nothing.
 use borrow.Author.Needs.{needs}
 use native.Mathlib.Omega.{arith}
-use mathlib.Core.Path.{sym}
-use Prim.Native.Nat.{_<_}
 use Rattle.kept.proofs.Slots.{slot-under-class, slot-under-often, slot-under-name}
 use Rattle.kept.proofs.under_pair.Statement.{statement}
 use Rattle.kept.proofs.under_pair.Tie as tie
@@ -11,9 +9,7 @@ sub-result : tie.Need-sub-result
 sub-result c = search needs
 
 returns : tie.Need-returns
-returns c =
-    let h = c .before .pre .0 in
-    (slot-under-class _ (omega arith) (omega arith) (omega arith), omega arith)
+returns c = (slot-under-class _ (omega arith) (omega arith) (omega arith), omega arith)
 
 returns-2 : tie.Need-returns-2
 returns-2 c = (slot-under-name 32 (omega arith) (omega arith) (omega arith), omega arith)

@@ -1,46 +1,51 @@
 -- `reader::read_records` meets its contract. Assumes nothing.
-use mathlib.Core.Path.{_≡_, refl, sym, ap, _∙_, subst}
+use mathlib.Core.Path.{_≡_, refl, sym, ap, _∙_}
 use mathlib.Core.Logic.{⊎-elim}
-use Prim.Native.Nat.{ℕ, _≤_, _<_, _-_, _+_}
+use Prim.Native.Nat.{ℕ, _≤_, _<_, _-_}
 use native.Mathlib.Omega.{arith}
 use mathlib.Core.List.{List, []}
+use mathlib.Core.Bool.{Bool}
 use lib.ListN.{length, getD, take, drop}
-use Rattle.layout.specs.Layout.{Class, name, fieldsOf, classOf}
+use Rattle.rows.specs.Edition.{labels}
+use Rattle.rows.proofs.Edition.{labels-small}
+use Rattle.layout.specs.Layout.{name, fieldsOf, classOf}
 use Rattle.layout.proofs.Table.{length-at, class-at, body-short, no-kind}
 use Rattle.format.specs.Sheet as format
-use Rattle.format.specs.Fields.{Fits, firstBad}
+use Rattle.format.specs.Fields.{firstBad}
 use Rattle.format.specs.Records.{after, wholeRefusal}
-use Rattle.sheet.proofs.Bodies.{forbid-body, return-body, undeclaring-passes}
-use Rattle.sheet.specs.declared.Sheet.{Sheet}
+use Rattle.sheet.proofs.Bodies.{undeclaring}
 use Rattle.fields.specs.Judging.{fieldRefusal}
+use Rattle.fields.proofs.Judged.{refusal-judging}
 use Rattle.sheet.specs.View.{sheetOf}
 use Rattle.reader.proofs.Laws.{On, Here, next-within, part, on-start, at-end, unknown-kind, cut-short, part-length, here-bad-field, here-bad-record, here-next, here-fits, fields-on, fields-bad, fields-end}
-use Rattle.reader.proofs.Marks.{refusal-judging, marked, taken-back, declared-marks, undeclared-marks}
 use borrow.Author.Needs.{needs}
 use Rattle.reader.proofs.read_records.Statement.{statement}
 use Rattle.reader.proofs.read_records.Tie as tie
 
 abbrev Inv-fields : tie.InvT-fields
-Inv-fields file lengths classes sheet refusal₀ at kind k n row body j₀ refusal j =
+Inv-fields file wide lengths classes sheet refusal₀ at kind k n row body j₀ refusal j =
     (refusal ≡ refusal₀)
     × (j ≤ n)
-    × (firstBad 64 (sheetOf sheet) (drop j (fieldsOf kind)) (drop j body) ≡ firstBad 64 (sheetOf sheet) (fieldsOf kind) body)
+    × (firstBad (labels wide) (sheetOf wide sheet) (drop j (fieldsOf kind)) (drop j body) ≡ firstBad (labels wide) (sheetOf wide sheet) (fieldsOf kind) body)
 
 abbrev μ-fields : tie.MeasureT-fields
-μ-fields file lengths classes sheet refusal₀ at kind k n row body j₀ refusal j = n - j
+μ-fields file wide lengths classes sheet refusal₀ at kind k n row body j₀ refusal j = n - j
 
 abbrev Inv-records : tie.InvT-records
-Inv-records file lengths classes sheet₀ refusal₀ at₀ sheet refusal at = (refusal ≡ 0) × (at ≤ length file) × On file (sheetOf sheet) at
+Inv-records file wide lengths classes sheet₀ refusal₀ at₀ sheet refusal at = (refusal ≡ 0) × (at ≤ length file) × On (labels wide) file (sheetOf wide sheet) at
 
 abbrev μ-records : tie.MeasureT-records
-μ-records file lengths classes sheet₀ refusal₀ at₀ sheet refusal at = length file - at
+μ-records file wide lengths classes sheet₀ refusal₀ at₀ sheet refusal at = length file - at
 
--- where the body of a record is at hand: the file, the sheet, the position, the record's kind
+-- where the body of a record is at hand: the edition, the file, the sheet, the position, the record's kind and body
 abbrev file-at : tie.After-body Inv-fields μ-fields Inv-records μ-records → List ℕ
 file-at c = c .before .before .before .before .before .before .before .before .before .before .before .before .args .file .now
 
+abbrev wide-at : tie.After-body Inv-fields μ-fields Inv-records μ-records → Bool
+wide-at c = c .before .before .before .before .before .before .before .before .before .before .before .before .args .wide
+
 abbrev sheet-at : tie.After-body Inv-fields μ-fields Inv-records μ-records → format.Sheet
-sheet-at c = sheetOf (c .before .before .before .before .before .before .before .records .sheet)
+sheet-at c = sheetOf (wide-at c) (c .before .before .before .before .before .before .before .records .sheet)
 
 abbrev place-at : tie.After-body Inv-fields μ-fields Inv-records μ-records → ℕ
 place-at c = c .before .before .before .before .before .before .before .records .at
@@ -51,8 +56,11 @@ kind-at c = getD (file-at c) (place-at c) 0
 abbrev length-of : tie.After-body Inv-fields μ-fields Inv-records μ-records → ℕ
 length-of c = getD (c .before .before .before .before .before .before .before .before .before .before .lengths .result) (kind-at c) 0
 
+abbrev body-at : tie.After-body Inv-fields μ-fields Inv-records μ-records → List ℕ
+body-at c = part (file-at c) (place-at c) (length-of c)
+
 -- a whole record starts there
-here : (c : tie.After-body Inv-fields μ-fields Inv-records μ-records) → Here (file-at c) (sheet-at c) (place-at c) (length-of c)
+here : (c : tie.After-body Inv-fields μ-fields Inv-records μ-records) → Here (labels (wide-at c)) (file-at c) (sheet-at c) (place-at c) (length-of c)
 here c = record {
   on = c .before .before .before .before .before .before .before .records .inv .2;
   inside = c .before .before .before .before .before .before .if1 .left;
@@ -73,7 +81,7 @@ inside-fields c =
 
 inside-body : (c : tie.After-field-refusal Inv-fields μ-fields Inv-records μ-records) →
     let f = c .before .before .before .before .before .before .before .before in
-    f .fields .j < length (part (file-at (f .before)) (place-at (f .before)) (length-of (f .before)))
+    f .fields .j < length (body-at (f .before))
 inside-body c =
     let f = c .before .before .before .before .before .before .before .before in
     let e = part-length (here (f .before)) in
@@ -84,50 +92,40 @@ inside-body c =
 field-is : (c : tie.After-field-refusal Inv-fields μ-fields Inv-records μ-records) →
     let f = c .before .before .before .before .before .before .before .before in
     let b = f .before in
-    c .field-refusal .result ≡ fieldRefusal (sheet-at b) (getD (fieldsOf (kind-at b)) (f .fields .j) name) (getD (part (file-at b) (place-at b) (length-of b)) (f .fields .j) 0)
+    c .field-refusal .result ≡ fieldRefusal (labels (wide-at b)) (sheet-at b) (getD (fieldsOf (kind-at b)) (f .fields .j) name) (getD (body-at b) (f .fields .j) 0)
 field-is c =
     let f = c .before .before .before .before .before .before .before .before in
     let b = f .before in
     let codes = b .before .before .before .before .before .before .before .before .before .classes .ensures in
-    c .field-refusal .ensures
-    ∙ refusal-judging (sheet-at b) _ _
-    ∙ ap (λ (k : Class). fieldRefusal (sheet-at b) k (getD (part (file-at b) (place-at b) (length-of b)) (f .fields .j) 0))
-    (ap (λ (l : List (List ℕ)). classOf (getD (getD l (kind-at b) []) (f .fields .j) 0)) codes
-    ∙ class-at (kind-at b) (f .fields .j) (b .before .before .before .before .if2 .left))
+    let class = ap (λ (l : List (List ℕ)). classOf (getD (getD l (kind-at b) []) (f .fields .j) 0)) codes
+    ∙ class-at (kind-at b) (f .fields .j) (b .before .before .before .before .if2 .left) in
+    rw (← class, ← refusal-judging (labels (wide-at b)) (sheet-at b)) (c .field-refusal .ensures)
 
 -- after it no field is bad
 fields-all : (c : tie.After-fields Inv-fields μ-fields Inv-records μ-records) →
     let b = c .before .before in
-    firstBad 64 (sheet-at b) (fieldsOf (kind-at b)) (part (file-at b) (place-at b) (length-of b)) ≡ 0
+    firstBad (labels (wide-at b)) (sheet-at b) (fieldsOf (kind-at b)) (body-at b) ≡ 0
 fields-all c =
     let e = here (c .before .before) .is in
     let l = c .fields-test .left in
     let b = c .before .before in
-    sym (c .before .fields .inv .2) ∙ fields-end (sheet-at b) (fieldsOf (kind-at b)) (part (file-at b) (place-at b) (length-of b)) (c .before .fields .j) (omega arith)
+    sym (c .before .fields .inv .2) ∙ fields-end (labels (wide-at b)) (sheet-at b) (fieldsOf (kind-at b)) (body-at b) (c .before .fields .j) (omega arith)
 
--- the record as a whole is not refused, and the sheet with its marks is the next one
-made : (c : tie.After-mark-returned Inv-fields μ-fields Inv-records μ-records) →
-    let b = c .before .before .before .before .before .before .before in
-    let k = kind-at b in
-    let body = part (file-at b) (place-at b) (length-of b) in
-    (wholeRefusal (sheet-at b) k body ≡ 0) × (marked (sheetOf (c .before .before .before .if6 .sheet)) k body ≡ after (sheet-at b) k body)
+-- the record as a whole is not refused, and the sheet is the next one
+made : (c : tie.Joined6 Inv-fields μ-fields Inv-records μ-records) →
+    let b = c .before .before .before in
+    (wholeRefusal (sheet-at b) (kind-at b) (body-at b) ≡ 0) × (sheetOf (wide-at b) (c .if6 .sheet) ≡ after (sheet-at b) (kind-at b) (body-at b))
 made c =
-    let j = c .before .before .before in
-    let b = j .before .before .before .before in
-    let s = sheet-at b in
-    let k = kind-at b in
-    let body = part (file-at b) (place-at b) (length-of b) in
-    let d = j .before .is-declaration .ensures in
+    let b = c .before .before .before in
+    let wide = wide-at b in
     ⊎-elim
     (λ w.
-    let yes = sym d ∙ w .0 .taken in
     let none = sym (w .1 .ensures .0) ∙ w .2 .left in
-    let next = ap sheetOf (w .4) ∙ w .1 .ensures .1 in
-    (none, ap (λ (z : format.Sheet). marked z k body) (next ∙ taken-back s k body yes none) ∙ declared-marks (after s k body) k body yes))
+    (none, ap (sheetOf wide) (w .4) ∙ rw none at (w .1 .ensures .1)))
     (λ w.
-    let no = sym d ∙ w .0 .left in
-    (undeclaring-passes s k body no, ap (λ (z : Sheet). marked (sheetOf z) k body) (w .1) ∙ undeclared-marks s k body no))
-    (j .if6 .came)
+    let u = undeclaring (sheet-at b) (kind-at b) (body-at b) (λ z. omega arith) (λ z. omega arith) (λ z. omega arith) (λ z. omega arith) (λ z. omega arith) in
+    (u .0, ap (sheetOf wide) (w .1) ∙ u .1))
+    (c .if6 .came)
 
 lengths-requires : tie.Need-lengths-requires Inv-fields μ-fields Inv-records μ-records
 lengths-requires c κs = search needs
@@ -139,7 +137,7 @@ fresh-requires : tie.Need-fresh-requires Inv-fields μ-fields Inv-records μ-rec
 fresh-requires c κs = search needs
 
 records-holds : tie.Need-records-holds Inv-fields μ-fields Inv-records μ-records
-records-holds c = (refl, search needs, rw (c .fresh .ensures) (on-start _))
+records-holds c = (refl, search needs, rw (c .fresh .ensures) (on-start _ _))
 
 shared-slice-read-kind : tie.Need-shared-slice-read-kind Inv-fields μ-fields Inv-records μ-records
 shared-slice-read-kind c = search needs
@@ -199,7 +197,11 @@ shared-slice-read-field-refusal :
 shared-slice-read-field-refusal c = search needs
 
 field-refusal-requires : tie.Need-field-refusal-requires Inv-fields μ-fields Inv-records μ-records
-field-refusal-requires c κs = search needs
+field-refusal-requires c κs =
+    let b = c .before .before .before .before .before .before .before .before in
+    let sheet = b .before .before .before .before .before .before .before .records .sheet in
+    let long : length (sheet .types) ≡ 256 = search needs in
+    omega (arith, labels-small (wide-at b))
 
 add-j : tie.Need-add-j Inv-fields μ-fields Inv-records μ-records
 add-j c = search needs
@@ -211,27 +213,10 @@ fields-again : tie.Need-fields-again Inv-fields μ-fields Inv-records μ-records
 fields-again c =
     let f = c .before .before .before .before .before .before .before .before .before in
     let b = f .before in
-    (search needs, search needs, sym (fields-on _ _ _ _ (inside-fields (c .before)) (inside-body (c .before)) (sym (field-is (c .before)) ∙ c .if5 .left)) ∙ f .fields .inv .2)
-
-is-declaration-requires :
-    tie.Need-is-declaration-requires Inv-fields μ-fields Inv-records μ-records
-is-declaration-requires c κs = search needs
+    (search needs, search needs, sym (fields-on _ _ _ _ _ (inside-fields (c .before)) (inside-body (c .before)) (sym (field-is (c .before)) ∙ c .if5 .left)) ∙ f .fields .inv .2)
 
 take-requires : tie.Need-take-requires Inv-fields μ-fields Inv-records μ-records
-take-requires c κs = here-fits (here (c .before .before .before .before)) (fields-all (c .before .before))
-
-mark-forbidden-requires :
-    tie.Need-mark-forbidden-requires Inv-fields μ-fields Inv-records μ-records
-mark-forbidden-requires c κs = λ e.
-    let f = c .before .before in
-    let b = f .before .before in
-    forbid-body (sheet-at b) (part (file-at b) (place-at b) (length-of b)) (here b .on .sized .types-length) (subst (λ (k : ℕ). Fits 64 (sheet-at b) (fieldsOf k) (part (file-at b) (place-at b) (length-of b))) e (here-fits (here b) (fields-all f)))
-
-mark-returned-requires : tie.Need-mark-returned-requires Inv-fields μ-fields Inv-records μ-records
-mark-returned-requires c κs = λ e.
-    let f = c .before .before .before .before in
-    let b = f .before .before in
-    return-body (sheet-at b) (part (file-at b) (place-at b) (length-of b)) (here b .on .sized .types-length) (here b .on .sized .owners-length) (subst (λ (k : ℕ). Fits 64 (sheet-at b) (fieldsOf k) (part (file-at b) (place-at b) (length-of b))) e (here-fits (here b) (fields-all f)))
+take-requires c κs = here-fits (here (c .before .before .before)) (fields-all (c .before))
 
 add-at : tie.Need-add-at Inv-fields μ-fields Inv-records μ-records
 add-at c = search needs
@@ -244,24 +229,20 @@ records-less c = search needs
 
 records-again : tie.Need-records-again Inv-fields μ-fields Inv-records μ-records
 records-again c =
-    let j = c .before .before .before in
-    let f = j .before .before in
+    let f = c .before in
     let b = f .before .before in
-    let s = sheet-at b in
-    let k = kind-at b in
-    let body = part (file-at b) (place-at b) (length-of b) in
     let m = made c in
-    (f .before .fields .inv .0 ∙ b .before .before .before .before .before .before .before .records .inv .0, next-within (here b .inside) (here b .room), rw (c .before .before .mark-forbidden .ensures, c .mark-returned .ensures) (subst (λ (z : format.Sheet). On (file-at b) z (place-at b + 1 + length-of b)) (sym (m .1)) (here-next (here b) (fields-all f) (m .0))))
+    (f .before .fields .inv .0 ∙ b .before .before .before .before .before .before .before .records .inv .0, next-within (here b .inside) (here b .room), rw (m .1) (here-next (here b) (fields-all f) (m .0)))
 
 returns : tie.Need-returns Inv-fields μ-fields Inv-records μ-records
 returns c =
-    let a = at-end _ _ _ (c .before .records .inv .2) (c .if1 .taken) in
+    let a = at-end _ _ _ _ (c .before .records .inv .2) (c .if1 .taken) in
     (a .sheet-same, (rw (c .before .records .inv .0) (a .refusal-same), a .position-same))
 
 returns-2 : tie.Need-returns-2 Inv-fields μ-fields Inv-records μ-records
 returns-2 c =
     let r = c .before .before .before .records in
-    let a = unknown-kind _ _ _ (r .inv .2) (c .before .before .if1 .left) (no-kind _ (c .if2 .taken)) in
+    let a = unknown-kind _ _ _ _ (r .inv .2) (c .before .before .if1 .left) (no-kind _ (c .if2 .taken)) in
     (a .sheet-same, (a .refusal-same, a .position-same))
 
 returns-3 : tie.Need-returns-3 Inv-fields μ-fields Inv-records μ-records
@@ -269,7 +250,7 @@ returns-3 c =
     let r = c .before .before .before .before .records in
     let k = getD (c .before .before .before .before .before .before .before .before .before .args .file .now) (r .at) 0 in
     let e = ap (λ (l : List ℕ). getD l k 0) (c .before .before .before .before .before .before .before .lengths .ensures) ∙ length-at k in
-    let a = unknown-kind _ _ _ (r .inv .2) (c .before .before .before .if1 .left) (sym e ∙ c .if3 .taken) in
+    let a = unknown-kind _ _ _ _ (r .inv .2) (c .before .before .before .if1 .left) (sym e ∙ c .if3 .taken) in
     (a .sheet-same, (a .refusal-same, a .position-same))
 
 returns-4 : tie.Need-returns-4 Inv-fields μ-fields Inv-records μ-records
@@ -277,19 +258,19 @@ returns-4 c =
     let r = c .before .before .before .before .before .records in
     let k = getD (c .before .before .before .before .before .before .before .before .before .before .args .file .now) (r .at) 0 in
     let e = ap (λ (l : List ℕ). getD l k 0) (c .before .before .before .before .before .before .before .before .lengths .ensures) ∙ length-at k in
-    let a = cut-short _ _ _ (r .inv .2) (c .before .before .before .before .if1 .left) _ e (c .before .if3 .left) (c .if4 .taken) in
+    let a = cut-short _ _ _ _ (r .inv .2) (c .before .before .before .before .if1 .left) _ e (c .before .if3 .left) (c .if4 .taken) in
     (a .sheet-same, (a .refusal-same, a .position-same))
 
 returns-5 : tie.Need-returns-5 Inv-fields μ-fields Inv-records μ-records
 returns-5 c =
     let f = c .before .before .before .before .before .before .before .before .before in
-    let e = sym (f .fields .inv .2) ∙ fields-bad _ _ _ _ (inside-fields (c .before)) (inside-body (c .before)) (λ z. c .if5 .taken (field-is (c .before) ∙ z)) ∙ sym (field-is (c .before)) in
+    let e = sym (f .fields .inv .2) ∙ fields-bad _ _ _ _ _ (inside-fields (c .before)) (inside-body (c .before)) (λ z. c .if5 .taken (field-is (c .before) ∙ z)) ∙ sym (field-is (c .before)) in
     let a = here-bad-field (here (f .before)) _ e (c .if5 .taken) in
     (a .sheet-same, (a .refusal-same, a .position-same))
 
 returns-6 : tie.Need-returns-6 Inv-fields μ-fields Inv-records μ-records
 returns-6 c =
-    let f = c .before .before .before .before in
+    let f = c .before .before .before in
     let b = f .before .before in
     let a = here-bad-record (here b) (fields-all f) _ (sym (c .before .take .ensures .0)) (c .if7 .taken) in
     (a .sheet-same, (a .refusal-same, a .position-same))
@@ -327,10 +308,7 @@ read-records-spec =
     add-j
     fields-less
     fields-again
-    is-declaration-requires
     take-requires
-    mark-forbidden-requires
-    mark-returned-requires
     add-at
     add-at-2
     records-less

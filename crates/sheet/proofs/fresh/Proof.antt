@@ -1,6 +1,6 @@
 -- `sheet::fresh` meets its contract. Assumes nothing.
-use mathlib.Core.Path.{refl}
 use Rattle.format.specs.Sheet.{start}
+use Rattle.sheet.proofs.Laws.{begun}
 use borrow.Author.Needs.{needs}
 use Rattle.sheet.proofs.fresh.Statement.{statement}
 use Rattle.sheet.proofs.fresh.Tie as tie
@@ -32,12 +32,12 @@ array-write-flags-3 c = search needs
 array-write-defined : tie.Need-array-write-defined
 array-write-defined c = search needs
 
-array-write-returned : tie.Need-array-write-returned
-array-write-returned c = search needs
+none-requires : tie.Need-none-requires
+none-requires c κs = search needs
 
 returns : tie.Need-returns
 unfolding start
-returns c = refl
+returns c = begun (c .before .args .wide) _ (c .none .ensures)
 
 pub fresh-spec : {M : Type 1} → statement M
 fresh-spec =
@@ -52,5 +52,5 @@ fresh-spec =
     array-write-flags-2
     array-write-flags-3
     array-write-defined
-    array-write-returned
+    none-requires
     returns)

@@ -1,28 +1,35 @@
 -- `sheet::Sheet::take` meets its contract. Assumes nothing.
-use mathlib.Core.Path.{_≡_, sym}
-use lib.ListN.{length}
-use borrow.Author.Needs.{needs}
+use Rattle.rows.specs.Edition.{labels}
 use Rattle.sheet.specs.View.{sheetOf}
-use Rattle.sheet.proofs.Bodies.{name-body, label-body, function-body, variable-body, undeclaring, undeclaring-passes}
+use Rattle.sheet.proofs.Laws.{cut-length, passed}
+use Rattle.sheet.proofs.Bodies.{name-body, label-body, forbid-body, function-body, variable-body, undeclaring}
 use Rattle.sheet.proofs.Sheet.take.Statement.{statement}
 use Rattle.sheet.proofs.Sheet.take.Tie as tie
 
 take-name-requires : tie.Need-take-name-requires
 take-name-requires c κs =
-    name-body (sheetOf (c .before .before .args .self)) (c .before .before .args .body .now) (rw (c .match .keys1) at (c .before .before .pre))
+    let v = c .before .before .args in
+    name-body (labels (v .wide)) (sheetOf (v .wide) (v .self)) (v .body .now) (rw (c .match .keys1) at (c .before .before .pre))
 
 take-label-requires : tie.Need-take-label-requires
 take-label-requires c κs =
-    label-body (sheetOf (c .before .before .args .self)) (c .before .before .args .body .now) (rw (c .match .keys2) at (c .before .before .pre))
+    let v = c .before .before .args in
+    label-body (labels (v .wide)) (sheetOf (v .wide) (v .self)) (v .body .now) (rw (c .match .keys2) at (c .before .before .pre))
+
+take-forbid-requires : tie.Need-take-forbid-requires
+take-forbid-requires c κs =
+    let v = c .before .before .args in
+    forbid-body (labels (v .wide)) (sheetOf (v .wide) (v .self)) (v .body .now) (cut-length (labels (v .wide)) (v .self .types)) (rw (c .match .keys3) at (c .before .before .pre))
 
 take-function-requires : tie.Need-take-function-requires
 take-function-requires c κs =
-    let long : length (c .before .before .args .self .types) ≡ 64 = search (needs, c .before .before .good .0) in
-    function-body (sheetOf (c .before .before .args .self)) (c .before .before .args .body .now) long (rw (c .match .keys3) at (c .before .before .pre))
+    let v = c .before .before .args in
+    function-body (labels (v .wide)) (sheetOf (v .wide) (v .self)) (v .body .now) (cut-length (labels (v .wide)) (v .self .types)) (rw (c .match .keys4) at (c .before .before .pre))
 
 take-variable-requires : tie.Need-take-variable-requires
 take-variable-requires c κs =
-    variable-body (sheetOf (c .before .before .args .self)) (c .before .before .args .body .now) (rw (c .match .keys4) at (c .before .before .pre))
+    let v = c .before .before .args in
+    variable-body (labels (v .wide)) (sheetOf (v .wide) (v .self)) (v .body .now) (rw (c .match .keys5) at (c .before .before .pre))
 
 returns : tie.Need-returns
 returns c = rw (c .before .match .keys1) (c .take-name .ensures)
@@ -31,17 +38,21 @@ returns-2 : tie.Need-returns-2
 returns-2 c = rw (c .before .match .keys2) (c .take-label .ensures)
 
 returns-3 : tie.Need-returns-3
-returns-3 c = rw (c .before .match .keys3) (c .take-function .ensures)
+returns-3 c = rw (c .before .match .keys3) (c .take-forbid .ensures)
 
 returns-4 : tie.Need-returns-4
-returns-4 c = rw (c .before .match .keys4) (c .take-variable .ensures)
+returns-4 c = rw (c .before .match .keys4) (c .take-function .ensures)
 
 returns-5 : tie.Need-returns-5
-returns-5 c =
-    let a = c .before .before .args in
+returns-5 c = rw (c .before .match .keys5) (c .take-variable .ensures)
+
+returns-6 : tie.Need-returns-6
+returns-6 c =
+    let v = c .before .before .args in
+    let s = sheetOf (v .wide) (v .self) in
     let r = c .match .rest in
-    let e = undeclaring (a .kind) (r .0 .0 .0 .1) (r .0 .0 .1) (r .0 .1) (r .1) in
-    (sym (undeclaring-passes (sheetOf (a .self)) (a .kind) (a .body .now) e), rw e)
+    let u = undeclaring s (v .kind) (v .body .now) (r .0 .0 .0 .0 .1) (r .0 .0 .0 .1) (r .0 .0 .1) (r .0 .1) (r .1) in
+    passed s (v .kind) (v .body .now) s (u .0) (u .1)
 
 pub take-spec : {M : Type 1} → statement M
 take-spec =
@@ -49,10 +60,12 @@ take-spec =
     (tie.spec
     take-name-requires
     take-label-requires
+    take-forbid-requires
     take-function-requires
     take-variable-requires
     returns
     returns-2
     returns-3
     returns-4
-    returns-5)
+    returns-5
+    returns-6)

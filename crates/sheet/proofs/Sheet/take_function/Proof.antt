@@ -1,59 +1,75 @@
 -- `sheet::Sheet::take_function` meets its contract. Assumes nothing.
-use mathlib.Core.Path.{sym, _∙_}
-use Rattle.sheet.specs.View.{sheetOf}
-use Rattle.sheet.proofs.Laws.{passed-back, function-once, part-is}
-use Rattle.sheet.proofs.Cases.{cases}
+use mathlib.Core.Path.{_≡_}
+use Prim.Native.Nat.{_*_}
+use native.Mathlib.Omega.{arith}
+use lib.ListN.{length, getD, drop, length-drop}
+use Rattle.rows.specs.Edition.{labels}
+use Rattle.rows.proofs.Edition.{labels-small}
 use Rattle.format.specs.Records.{wholeRefusal, misnamed, twice, after}
+use Rattle.sheet.proofs.Cases.{cases}
+use Rattle.sheet.proofs.Laws.{cut-entry, cut-store, cut-copy, part-is}
 use borrow.Author.Needs.{needs}
 use Rattle.sheet.proofs.Sheet.take_function.Statement.{statement}
 use Rattle.sheet.proofs.Sheet.take_function.Tie as tie
 
-shared-slice-read-l : tie.Need-shared-slice-read-l
-shared-slice-read-l c = search needs
+shared-slice-read-index : tie.Need-shared-slice-read-index
+shared-slice-read-index c = search needs
 
-cast-l : tie.Need-cast-l
-cast-l c = search needs
+index-requires : tie.Need-index-requires
+index-requires c κs = search needs
 
 element-copy-out-if1 : tie.Need-element-copy-out-if1
 element-copy-out-if1 c = search needs
 
 returns : tie.Need-returns
 unfolding wholeRefusal misnamed twice after
-returns c = search cases
+returns c =
+    let v = c .before .before .before .before .before .args in
+    let e = c .before .before .index .ensures .0 in
+    let h = c .before .before .before .before .before .pre .1 in
+    rw (cut-entry (labels (v .wide)) (v .t1 .defined) _ _ e h) (search cases)
 
 element-write-self : tie.Need-element-write-self
 element-write-self c = search needs
 
-sub-with-formals : tie.Need-sub-with-formals
-sub-with-formals c = search needs
+sub-fill : tie.Need-sub-fill
+sub-fill c = search needs
 
-part-with-formals-start : tie.Need-part-with-formals-start
-part-with-formals-start c = search needs
+part-fill-start : tie.Need-part-fill-start
+part-fill-start c = search needs
 
-part-with-formals-end : tie.Need-part-with-formals-end
-part-with-formals-end c = search needs
+part-fill-end : tie.Need-part-fill-end
+part-fill-end c = search needs
 
-with-formals-requires : tie.Need-with-formals-requires
-with-formals-requires c κs = search needs
+fill-requires : tie.Need-fill-requires
+fill-requires c κs = search needs
 
 returns-2 : tie.Need-returns-2
-unfolding after
+unfolding wholeRefusal misnamed twice after
 returns-2 c =
-    let v = c .before .before .before .before .before .before .args in
-    let e = function-once (sheetOf (v .t1)) (v .body .now) (search needs) in
-    (sym e, (rw (part-is (v .body .now)) at (c .with-formals .ensures)) ∙ passed-back (sheetOf (v .t1)) 4 (v .body .now) e)
+    let start = c .before .before .before .before .before .before .before .before in
+    let v = start .args in
+    let n = labels (v .wide) in
+    let e = c .before .before .before .before .before .index .ensures .0 in
+    let h = start .pre .1 in
+    let most = labels-small (v .wide) in
+    let room : length (v .t1 .formals) ≡ 1792 = search (needs, start .good .0) in
+    let seven : length (drop 1 (v .body .now)) ≡ 7 = omega (arith, length-drop 1 (v .body .now), start .pre .0) in
+    let filled = rw (e, part-is (v .body .now)) at (c .fill .ensures) in
+    let cut = cut-copy (7 * n) (v .t1 .formals) (7 * getD (v .body .now) 0 0) (drop 1 (v .body .now)) 7 (omega arith) (omega arith) (omega arith) in
+    rw (cut-store n (v .t1 .defined) _ _ 1 e h, filled, cut, cut-entry n (v .t1 .defined) _ _ e h) (search cases)
 
 pub take-function-spec : {M : Type 1} → statement M
 take-function-spec =
     tie.close
     (tie.spec
-    shared-slice-read-l
-    cast-l
+    shared-slice-read-index
+    index-requires
     element-copy-out-if1
     returns
     element-write-self
-    sub-with-formals
-    part-with-formals-start
-    part-with-formals-end
-    with-formals-requires
+    sub-fill
+    part-fill-start
+    part-fill-end
+    fill-requires
     returns-2)

@@ -1,22 +1,29 @@
 -- `sheet::Sheet::take_label` meets its contract. Assumes nothing.
-use Rattle.sheet.proofs.Cases.{cases}
+use lib.ListN.{getD}
+use Rattle.rows.specs.Edition.{labels}
 use Rattle.format.specs.Records.{wholeRefusal, misnamed, twice, after}
+use Rattle.sheet.proofs.Cases.{cases}
+use Rattle.sheet.proofs.Laws.{cut-entry, cut-store}
 use borrow.Author.Needs.{needs}
 use Rattle.sheet.proofs.Sheet.take_label.Statement.{statement}
 use Rattle.sheet.proofs.Sheet.take_label.Tie as tie
 
-shared-slice-read-l : tie.Need-shared-slice-read-l
-shared-slice-read-l c = search needs
+shared-slice-read-index : tie.Need-shared-slice-read-index
+shared-slice-read-index c = search needs
 
-cast-l : tie.Need-cast-l
-cast-l c = search needs
+index-requires : tie.Need-index-requires
+index-requires c κs = search needs
 
 element-copy-out-if1 : tie.Need-element-copy-out-if1
 element-copy-out-if1 c = search needs
 
 returns : tie.Need-returns
 unfolding wholeRefusal misnamed twice after
-returns c = search cases
+returns c =
+    let v = c .before .before .before .before .before .args in
+    let e = c .before .before .index .ensures .0 in
+    let h = c .before .before .before .before .before .pre .1 in
+    rw (cut-entry (labels (v .wide)) (v .t1 .types) _ _ e h) (search cases)
 
 shared-slice-read-self : tie.Need-shared-slice-read-self
 shared-slice-read-self c = search needs
@@ -32,14 +39,20 @@ element-write-self-2 c = search needs
 
 returns-2 : tie.Need-returns-2
 unfolding wholeRefusal misnamed twice after
-returns-2 c = search cases
+returns-2 c =
+    let v = c .before .before .before .before .before .before .before .args in
+    let n = labels (v .wide) in
+    let e = c .before .before .before .before .index .ensures .0 in
+    let h = c .before .before .before .before .before .before .before .pre .1 in
+    rw (cut-store n (v .t1 .types) _ _ (getD (v .body .now) 1 0) e h, cut-store n (v .t1 .flags) _ _ (getD (v .body .now) 2 0) e h, cut-entry n (v .t1 .types) _ _ e h)
+    (search cases)
 
 pub take-label-spec : {M : Type 1} → statement M
 take-label-spec =
     tie.close
     (tie.spec
-    shared-slice-read-l
-    cast-l
+    shared-slice-read-index
+    index-requires
     element-copy-out-if1
     returns
     shared-slice-read-self

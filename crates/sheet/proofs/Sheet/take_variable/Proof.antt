@@ -2,16 +2,16 @@
 use mathlib.Core.Path.{refl, sym, _∙_}
 use Rattle.format.specs.Records.{after}
 use Rattle.sheet.specs.View.{sheetOf}
-use Rattle.sheet.proofs.Laws.{refused-back, passed-back, variable-misnamed, variable-twice, variable-once}
+use Rattle.sheet.proofs.Laws.{refused, passed, variable-misnamed, variable-twice, variable-once}
 use borrow.Author.Needs.{needs}
 use Rattle.sheet.proofs.Sheet.take_variable.Statement.{statement}
 use Rattle.sheet.proofs.Sheet.take_variable.Tie as tie
 
-shared-slice-read-v : tie.Need-shared-slice-read-v
-shared-slice-read-v c = search needs
+shared-slice-read-index : tie.Need-shared-slice-read-index
+shared-slice-read-index c = search needs
 
-cast-v : tie.Need-cast-v
-cast-v c = search needs
+index-requires : tie.Need-index-requires
+index-requires c κs = search needs
 
 shared-slice-read-owner : tie.Need-shared-slice-read-owner
 shared-slice-read-owner c = search needs
@@ -24,9 +24,9 @@ both-requires c κs = search needs
 
 returns : tie.Need-returns
 returns c =
-    let v = c .before .before .before .before .before .before .args in
-    let e = variable-misnamed (sheetOf (v .t1)) (v .body .now) (sym (c .before .both .ensures) ∙ c .if1 .taken) in
-    (sym e, refused-back (sheetOf (v .t1)) 5 (v .body .now) 5 refl e)
+    let v = c .before .before .before .before .before .before .before .args in
+    let s = sheetOf (v .wide) (v .t1) in
+    refused s 5 (v .body .now) 5 refl (variable-misnamed s (v .body .now) (sym (c .before .both .ensures) ∙ c .if1 .taken))
 
 shared-slice-read-owner-of : tie.Need-shared-slice-read-owner-of
 shared-slice-read-owner-of c = search needs
@@ -37,9 +37,9 @@ owner-of-requires c κs = search needs
 returns-2 : tie.Need-returns-2
 returns-2 c =
     let o = c .before .before .before .before .before .before in
-    let v = o .before .before .before .before .before .before .args in
-    let e = variable-twice (sheetOf (v .t1)) (v .body .now) (sym (o .before .both .ensures) ∙ o .if1 .left) (λ z. c .if2 .taken (c .before .owner-of .ensures ∙ z)) in
-    (sym e, refused-back (sheetOf (v .t1)) 5 (v .body .now) 6 refl e)
+    let v = o .before .before .before .before .before .before .before .args in
+    let s = sheetOf (v .wide) (v .t1) in
+    refused s 5 (v .body .now) 6 refl (variable-twice s (v .body .now) (sym (o .before .both .ensures) ∙ o .if1 .left) (λ z. c .if2 .taken (c .before .owner-of .ensures ∙ z)))
 
 element-write-self : tie.Need-element-write-self
 element-write-self c = search needs
@@ -51,16 +51,17 @@ returns-3 : tie.Need-returns-3
 unfolding after
 returns-3 c =
     let o = c .before .before .before .before .before .before in
-    let v = o .before .before .before .before .before .before .args in
-    let e = variable-once (sheetOf (v .t1)) (v .body .now) (sym (o .before .both .ensures) ∙ o .if1 .left) (sym (c .before .owner-of .ensures) ∙ c .if2 .left) in
-    (sym e, passed-back (sheetOf (v .t1)) 5 (v .body .now) e)
+    let v = o .before .before .before .before .before .before .before .args in
+    let s = sheetOf (v .wide) (v .t1) in
+    rw (o .before .before .before .before .index .ensures .0)
+    (passed s 5 (v .body .now) _ (variable-once s (v .body .now) (sym (o .before .both .ensures) ∙ o .if1 .left) (sym (c .before .owner-of .ensures) ∙ c .if2 .left)) refl)
 
 pub take-variable-spec : {M : Type 1} → statement M
 take-variable-spec =
     tie.close
     (tie.spec
-    shared-slice-read-v
-    cast-v
+    shared-slice-read-index
+    index-requires
     shared-slice-read-owner
     shared-slice-read-name
     both-requires
