@@ -23,23 +23,23 @@ use Rattle.lent.specs.Table.{place}
 use Rattle.lent.specs.Stored.{Stored}
 use Rattle.host.specs.Lays.{functionsIn, builtInsIn, namesIn, Lays}
 use Rattle.host.proofs.Rows.{row-first}
-use Rattle.laying.specs.Holds.{Holds, has, ofClass, Classes}
+use Rattle.laying.specs.Holds.{Holds, hasByte, ofClass, Classes}
 
 few : (wide : Bool) → words wide ≤ 4
 few true = omega arith
 few false = omega arith
 
 -- a byte of the labels of the edition
-taken : (bytes : List ℕ) (L b l : ℕ) → 0 < b → (eqb (getD (take L bytes) l 0) b ≡ true) ↔ ((l < L) × (has bytes b l ≡ true))
+taken : (bytes : List ℕ) (L b l : ℕ) → 0 < b → (eqb (getD (take L bytes) l 0) b ≡ true) ↔ ((l < L) × (hasByte bytes b l ≡ true))
 taken bytes L b l h = (λ e. into e (decLt l L), λ q. ap (λ (x : ℕ). eqb x b) (getD-take L bytes l 0 (q .0)) ∙ q .1)
   where
-    into : eqb (getD (take L bytes) l 0) b ≡ true → Dec (l < L) → (l < L) × (has bytes b l ≡ true)
+    into : eqb (getD (take L bytes) l 0) b ≡ true → Dec (l < L) → (l < L) × (hasByte bytes b l ≡ true)
     into e (yes i) = (i, sym (ap (λ (x : ℕ). eqb x b) (getD-take L bytes l 0 i)) ∙ e)
     into e (no i) =
         let none : getD (take L bytes) l 0 ≡ 0 = List·getD-eq-default (take L bytes) 0 (simp length-take (omega (arith, i))) in
         absurd (omega (arith, none, eqb-true (getD (take L bytes) l 0) b e))
 
-module _ (wide : Bool) (types flags : List ℕ) {masks t u v w : List ℕ} {fs bs : ℕ} (f : Holds (has types 2) (labels wide) fs) (b : Holds (has flags 1) (labels wide) bs)
+module _ (wide : Bool) (types flags : List ℕ) {masks t u v w : List ℕ} {fs bs : ℕ} (f : Holds (hasByte types 2) (labels wide) fs) (b : Holds (hasByte flags 1) (labels wide) bs)
     (first : Stored (words wide) (place wide 0 0) fs t u) (second : Stored (words wide) (place wide 4 0) bs u v) (third : Classes 8 masks v w) where
   functions-are : functionsIn wide w ≡ fs
   functions-are =

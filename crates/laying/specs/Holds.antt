@@ -13,8 +13,8 @@ abbrev pub Holds : (ℕ → Bool) → ℕ → ℕ → Type 0
 Holds test n w = (l : ℕ) → (bit w l ≡ 1) ↔ ((l < n) × (test l ≡ true))
 
 -- label l has byte b
-abbrev pub has : List ℕ → ℕ → ℕ → Bool
-has bytes b l = eqb (getD bytes l 0) b
+abbrev pub hasByte : List ℕ → ℕ → ℕ → Bool
+hasByte bytes b l = eqb (getD bytes l 0) b
 
 -- the mask of name n, 1 where no record gives one, and whether the name is of class c
 abbrev pub maskIn : List ℕ → ℕ → ℕ

@@ -12,7 +12,7 @@ ghost use Rattle.program.specs.Program.{Program, programOf};
 ghost use Rattle.sets.specs.Value.{value};
 ghost use Rattle.host.specs.Lays.{Lays, ReturnsOf};
 ghost use Rattle.records.specs.Walk.{Walk};
-ghost use Rattle.laying.specs.Holds.{Holds, has, ofClass, Classes};
+ghost use Rattle.laying.specs.Holds.{Holds, hasByte, ofClass, Classes};
 ghost use Rattle.laying.specs.Marked.{arrays, Whole, withMark, Marked, MarkedAt};
 use rows::Label;
 use rows::Var;
@@ -31,7 +31,7 @@ fn label(l: usize) -> Label
 
 // The labels of the edition whose byte is `byte`.
 fn labels_with(wide: bool, bytes: &[u8; 256], byte: u8) -> Set
-    ensures { λ r. ⌜ Holds (has (now (bytes .entry)) byte) (labels wide) (value wide r) ⌝ }
+    ensures { λ r. ⌜ Holds (hasByte (now (bytes .entry)) byte) (labels wide) (value wide r) ⌝ }
 {
     let n = rows::labels(wide);
     let mut all = sets::none(wide);

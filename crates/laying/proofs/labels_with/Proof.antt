@@ -7,13 +7,13 @@ use Prim.Native.Nat.{_-_, _≤_}
 use native.Mathlib.Omega.{arith}
 use Rattle.rows.specs.Edition.{labels}
 use Rattle.sets.specs.Value.{value}
-use Rattle.laying.specs.Holds.{Holds, has}
+use Rattle.laying.specs.Holds.{Holds, hasByte}
 use Rattle.laying.proofs.Words.{holds-none, holds-on, holds-off}
 use Rattle.laying.proofs.labels_with.Statement.{statement}
 use Rattle.laying.proofs.labels_with.Tie as tie
 
 abbrev Inv-loop : tie.InvT-loop
-Inv-loop wide bytes byte n all₀ l₀ all l = (l ≤ n) × Holds (has bytes byte) l (value wide all)
+Inv-loop wide bytes byte n all₀ l₀ all l = (l ≤ n) × Holds (hasByte bytes byte) l (value wide all)
 
 abbrev μ-loop : tie.MeasureT-loop
 μ-loop wide bytes byte n all₀ l₀ all l = n - l
@@ -49,7 +49,7 @@ loop-again : tie.Need-loop-again Inv-loop μ-loop
 loop-again c =
     let a = c .before .before .before .before .before .before .args in
     let r = c .before .before .before .loop in
-    let test = has (a .bytes .now) (a .byte) in
+    let test = hasByte (a .bytes .now) (a .byte) in
     elim (c .if1 .came) [
       | inl b ↦ (
         search needs,
