@@ -1,5 +1,6 @@
 // The kinds of record of a statement file, as one table: how long each body is, and of which class each of its bytes is (document 01,
-// "The statement file"). A new kind of record is a new row here and in specs/Layout.antt. The reader copies both tables once and walks them.
+// "The statement file"). A new kind of record is a new row here and in specs/Layout.antt, and a digit of its length. The reader copies both tables
+// once and walks them.
 ghost use mathlib.Core.Path.{_≡_};
 ghost use Rattle.layout.specs.Layout.{bodyLength, bodyLengths, fieldCodes};
 

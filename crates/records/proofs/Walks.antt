@@ -1,11 +1,13 @@
 -- Walking over the records of a readable file: at each turn what is left of the bytes is the records left, written out. Assumes nothing.
 use mathlib.Core.Path.{_≡_, refl, sym, ap, _∙_, subst}
 use mathlib.Core.List.{List, [], _∷_, _++_, append-assoc, List·Memᴰ, List·Memᴰ·head, List·Memᴰ·tail}
+use mathlib.Core.Bool.{Bool, true, false}
 use Prim.Native.Nat.{ℕ, suc, _+_, _-_, _≤_, _<_}
 use native.Mathlib.Numerals.{add-one}
 use native.Mathlib.Omega.{arith}
 use lib.ListN.{length, getD, take, drop, length-drop, length-append, drop-of-length-le}
 use lib.Seq.{drop-cons, drop-drop, take-at, drop-at}
+use Rattle.rows.specs.Edition.{labels}
 use Rattle.layout.specs.Layout.{bodyLength}
 use Rattle.format.specs.Records.{Record}
 use Rattle.format.specs.Reading.{Reading, readFile, Readable, written, positioned}
@@ -15,6 +17,15 @@ use Rattle.format.proofs.Readable.{readable-ready}
 use Rattle.records.specs.Range.{InRange}
 use Rattle.records.specs.Walk.{Sound, AllSound, Walk, bodyAt}
 use Rattle.records.proofs.Ranges.{fits-in-range}
+
+-- how many labels there are
+pub five-labels : (wide : Bool) → 5 ≤ labels wide
+five-labels true = omega arith
+five-labels false = omega arith
+
+pub most-labels : (wide : Bool) → labels wide ≤ 256
+most-labels true = omega arith
+most-labels false = omega arith
 
 all-sound : (L at : ℕ) (rs : List Record) → ((a : ℕ) (r : Record) → List·Memᴰ (a, r) (positioned at rs) → Sound L r) → AllSound L rs
 unfolding positioned

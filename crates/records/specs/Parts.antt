@@ -7,7 +7,6 @@ use lib.Dec.{eqb}
 use Rattle.rows.specs.declared.Var.{Var}
 use Rattle.rows.specs.declared.Label.{Label}
 use Rattle.rows.specs.declared.Name.{Name}
-use Rattle.records.specs.declared.Inputs.{Inputs}
 use Rattle.records.specs.declared.Site.{Site}
 use Rattle.records.specs.declared.Statement.{Statement}
 use Rattle.records.specs.declared.Statement.the-variants.{Nothing, Named, Grant, Property, Held, Copy, Load, Store, Make, MakeFunction, Call, New, Throw, Catch, Convert}

@@ -8,7 +8,6 @@ use Rattle.program.specs.Statement as say
 use Rattle.program.specs.Program.{Program}
 use Rattle.analysis.specs.Rules.{ruleOf}
 use Rattle.records.specs.declared.Inputs.{Inputs}
-use Rattle.records.specs.declared.Site.{Site}
 use Rattle.records.specs.declared.Statement.{Statement}
 use Rattle.records.specs.declared.Statement.the-variants.{Nothing, Named, Grant, Property, Held, Copy, Load, Store, Make, MakeFunction, Call, New, Return, Throw, Catch, Convert}
 

@@ -1,6 +1,6 @@
 // The records of a readable file: where the next one begins, and what each says, with its bytes as variables, labels and names.
 ghost use mathlib.Core.Path.{_≡_};
-ghost use Prim.Native.Nat.{ℕ, _+_, _<_, _≤_};
+ghost use Prim.Native.Nat.{_+_, _<_, _≤_};
 ghost use lib.ListN.{length, getD};
 ghost use Rattle.rows.specs.Edition.{labels};
 ghost use Rattle.layout.specs.Layout.{bodyLength};

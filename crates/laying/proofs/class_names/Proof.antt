@@ -1,0 +1,59 @@
+-- The names of a class: the invariant is that they are those below n. Assumes nothing.
+use borrow.Author.Needs.{needs}
+use mathlib.Core.Path.{_≡_}
+use Prim.Native.Nat.{_-_, _≤_}
+use native.Mathlib.Omega.{arith}
+use Rattle.laying.specs.Holds.{Holds, ofClass}
+use Rattle.laying.proofs.Words.{holds-none, holds-next}
+use Rattle.laying.proofs.class_names.Statement.{statement}
+use Rattle.laying.proofs.class_names.Tie as tie
+
+abbrev Inv-loop : tie.InvT-loop
+Inv-loop masks class names₀ n₀ names n = (n ≤ 32) × Holds (ofClass masks class) n names
+
+abbrev μ-loop : tie.MeasureT-loop
+μ-loop masks class names₀ n₀ names n = 32 - n
+
+loop-holds : tie.Need-loop-holds Inv-loop μ-loop
+loop-holds c = (search needs, holds-none _)
+
+element-copy-out-mask-of : tie.Need-element-copy-out-mask-of Inv-loop μ-loop
+element-copy-out-mask-of c = search needs
+
+mask-of-requires : tie.Need-mask-of-requires Inv-loop μ-loop
+mask-of-requires c κs = search needs
+
+with-name-requires : tie.Need-with-name-requires Inv-loop μ-loop
+with-name-requires c κs = search needs
+
+add-n : tie.Need-add-n Inv-loop μ-loop
+add-n c = search needs
+
+loop-less : tie.Need-loop-less Inv-loop μ-loop
+loop-less c = search needs
+
+loop-again : tie.Need-loop-again Inv-loop μ-loop
+loop-again c =
+    let a = c .before .before .before .before .before .args in
+    let r = c .before .before .before .before .loop in (
+      search needs,
+      rw (c .with-name .ensures, c .before .mask-of .ensures) (holds-next (ofClass (a .masks .now) (a .class)) (r .n) (r .names) (r .inv .1)),
+    )
+
+returns : tie.Need-returns Inv-loop μ-loop
+returns c = let e : c .before .loop .n ≡ 32 = omega arith in rw e at (c .before .loop .inv .1)
+
+pub class-names-spec : {M : Type 1} → statement M
+class-names-spec =
+    tie.close
+    (tie.spec
+    Inv-loop
+    μ-loop
+    loop-holds
+    element-copy-out-mask-of
+    mask-of-requires
+    with-name-requires
+    add-n
+    loop-less
+    loop-again
+    returns)

@@ -1,0 +1,41 @@
+-- The array `host`, part by part. Assumes nothing.
+use borrow.Author.Needs.{needs}
+use Rattle.host.proofs.Rows.{row-fits}
+use Rattle.laying.proofs.Laid.{lays}
+use Rattle.laying.proofs.lay.Statement.{statement}
+use Rattle.laying.proofs.lay.Tie as tie
+
+labels-with-requires : tie.Need-labels-with-requires
+labels-with-requires c κs = search needs
+
+write-requires : tie.Need-write-requires
+write-requires c κs = row-fits (c .before .before .args .wide) 0 _ (search needs)
+
+labels-with-requires-2 : tie.Need-labels-with-requires-2
+labels-with-requires-2 c κs = search needs
+
+write-requires-2 : tie.Need-write-requires-2
+write-requires-2 c κs = row-fits (c .before .before .before .before .before .args .wide) 4 _ (search needs)
+
+lay-names-requires : tie.Need-lay-names-requires
+lay-names-requires c κs = search needs
+
+returns : tie.Need-returns
+returns c =
+    let a = c .before .before .before .before .before .before .before .before .args in
+    let write2 = c .before .before in
+    let write = write2 .before .before .before in
+    λ p t f m.
+    lays (a .wide) (a .types .now) (a .flags .now) (write .before .before .labels-with .ensures) (write2 .before .before .labels-with2 .ensures) (write .write .ensures) (write2 .write2 .ensures)
+    (c .lay-names .ensures) p m t f
+
+pub lay-spec : {M : Type 1} → statement M
+lay-spec =
+    tie.close
+    (tie.spec
+    labels-with-requires
+    write-requires
+    labels-with-requires-2
+    write-requires-2
+    lay-names-requires
+    returns)

@@ -1,0 +1,14 @@
+-- A mask that no record gives is 1. Assumes nothing.
+use borrow.Author.Needs.{needs}
+use borrow.Author.Tests.{eq-eqb, ne-eqb}
+use Rattle.laying.proofs.mask_of.Statement.{statement}
+use Rattle.laying.proofs.mask_of.Tie as tie
+
+returns : tie.Need-returns
+returns c = search (needs, eq-eqb)
+
+returns-2 : tie.Need-returns-2
+returns-2 c = search (needs, ne-eqb)
+
+pub mask-of-spec : {M : Type 1} → statement M
+mask-of-spec = tie.close (tie.spec returns returns-2)
