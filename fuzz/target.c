@@ -27,7 +27,7 @@ static const uint16_t short_tables[16] = {0, 1, 2, 63, 64, 255, 256, 257, 1000, 
 
 /* ---- what was seen, printed at the end */
 
-static uint64_t seen_verdict[4], seen_check[4], refused_verdict[16], refused_check[16];
+static uint64_t seen_verdict[4], seen_check[4], refused_verdict[17], refused_check[17];
 
 static void say(void)
 {
@@ -235,7 +235,7 @@ int LLVMFuzzerTestOneInput(const uint8_t *input, size_t length)
     must_words(call.table, expected, call.table_length, "the table left by the verdict called again");
 
     uint64_t accepted = (uint64_t)PEZVORAN_ACCEPTED << 4;
-    uint64_t held = PEZVORAN_FORBIDDEN_HELD | (uint64_t)pezvoran_label(answer) << 4;
+    uint64_t held = PEZVORAN_FORBIDDEN_HELD | (uint64_t)pezvoran_label(answer) << 4 | (uint64_t)pezvoran_guest(answer) << 17;
     uint64_t of_left = written == 0 ? answer : pezvoran_outcome_of(answer) == PEZVORAN_CONFINED ? accepted : held;
     must_answer(call_check(&call, expected), of_left, "the check of the table left");
     must_answer(call_check(&call, expected), of_left, "the check of the table left, called again");

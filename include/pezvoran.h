@@ -17,7 +17,7 @@ extern "C" {
    overlap. The answer is one word, to be read with the functions below.
 
    A call keeps nothing from one call to the next and takes no memory but the stack, so threads may call at the same time, each with a table of its
-   own. The stack that a call takes is the same for every file: 77,584 bytes for a verdict, 45,696 for a check, as measured (bench/RESULTS.md). A thread
+   own. The stack that a call takes is the same for every file: 77,608 bytes for a verdict, 45,720 for a check, as measured (bench/RESULTS.md). A thread
    with less dies; PEZVORAN_STACK_BYTES is what the tests give one. */
 
 /* The verdict: confined, leaks or refused. Unless it refuses, the first PEZVORAN_TABLE_WORDS words of the table become the finished table, whatever
@@ -39,46 +39,18 @@ enum {
     PEZVORAN_STACK_BYTES = 98304 /* enough stack for a thread that calls either operation */
 };
 
-/* ---- an answer taken apart */
+/* ---- an answer taken apart: a part that the outcome does not have is 0 */
 
 typedef enum {
     PEZVORAN_CONFINED = 0, /* has a count */
-    PEZVORAN_LEAKS = 1,    /* has a label and a count */
-    PEZVORAN_ACCEPTED = 2,
-    PEZVORAN_REFUSED = 3 /* has a number and a position */
+    PEZVORAN_LEAKS = 1,    /* has a label, a guest and a count */
+    PEZVORAN_ACCEPTED = 2, /* has a count, 0 for the check */
+    PEZVORAN_REFUSED = 3,  /* has a number and a position, and for 11 a guest */
+    PEZVORAN_CHOICE = 4,   /* has a choice; no operation here answers it, nor the next */
+    PEZVORAN_NONE_HELPS = 5
 } pezvoran_outcome;
 
-/* The number of a refusal, 1 to 11; else 0. */
-static inline unsigned pezvoran_number(uint64_t answer)
-{
-    return (unsigned)(answer & 15);
-}
-
-static inline pezvoran_outcome pezvoran_outcome_of(uint64_t answer)
-{
-    return pezvoran_number(answer) != 0 ? PEZVORAN_REFUSED : (pezvoran_outcome)(answer >> 4 & 15);
-}
-
-/* The position of a refusal; else 0. pezvoran_position_means says what it is. */
-static inline uint64_t pezvoran_position(uint64_t answer)
-{
-    return pezvoran_number(answer) != 0 ? answer >> 4 : 0;
-}
-
-/* The lowest forbidden label that the guest may hold, where the outcome is leaks; else 0. */
-static inline unsigned pezvoran_label(uint64_t answer)
-{
-    return pezvoran_number(answer) != 0 ? 0 : (unsigned)(answer >> 8 & 511);
-}
-
-/* The number of facts in the finished table, where the outcome is confined or leaks; else 0. */
-static inline uint32_t pezvoran_count(uint64_t answer)
-{
-    return pezvoran_number(answer) != 0 ? 0 : (uint32_t)(answer >> 32 & 0x3fffff);
-}
-
-/* ---- refusals */
-
+/* The numbers of refusals; others up to 16 have a place in the word. */
 typedef enum {
     PEZVORAN_UNKNOWN_KIND = 1,
     PEZVORAN_RECORD_CUT_SHORT = 2,
@@ -92,6 +64,59 @@ typedef enum {
     PEZVORAN_TABLE_NOT_CLOSED = 10,
     PEZVORAN_FORBIDDEN_HELD = 11
 } pezvoran_refusal;
+
+/* A refusal from 1 to 15 has its number in bits 0 to 3 and its position above them. Any other answer has 0 there and its outcome in bits 4 to 7; a refusal
+   with that outcome is 16. */
+static inline pezvoran_outcome pezvoran_outcome_of(uint64_t answer)
+{
+    return (answer & 15) != 0 ? PEZVORAN_REFUSED : (pezvoran_outcome)(answer >> 4 & 15);
+}
+
+/* The number of a refusal, 1 to 16. */
+static inline unsigned pezvoran_number(uint64_t answer)
+{
+    if ((answer & 15) != 0)
+        return (unsigned)(answer & 15);
+    return pezvoran_outcome_of(answer) == PEZVORAN_REFUSED ? 16 : 0;
+}
+
+/* The position of a refusal. pezvoran_position_means says what it is. */
+static inline uint64_t pezvoran_position(uint64_t answer)
+{
+    switch (pezvoran_number(answer)) {
+    case 0: return 0;
+    case PEZVORAN_FORBIDDEN_HELD: return answer >> 4 & 8191;
+    case 16: return answer >> 8;
+    default: return answer >> 4;
+    }
+}
+
+/* The lowest forbidden label that the guest may hold, where the outcome is leaks. */
+static inline unsigned pezvoran_label(uint64_t answer)
+{
+    return pezvoran_outcome_of(answer) == PEZVORAN_LEAKS ? (unsigned)(answer >> 8 & 511) : 0;
+}
+
+/* The label of the guest that may hold it, where the outcome is leaks or the refusal is 11: 3, the guest of document 01. */
+static inline unsigned pezvoran_guest(uint64_t answer)
+{
+    int named = pezvoran_outcome_of(answer) == PEZVORAN_LEAKS || pezvoran_number(answer) == PEZVORAN_FORBIDDEN_HELD;
+    return named ? (unsigned)(answer >> 17 & 255) : 0;
+}
+
+/* The number of facts in the finished table, where the outcome is confined or leaks; a count where it is accepted. */
+static inline uint32_t pezvoran_count(uint64_t answer)
+{
+    return pezvoran_outcome_of(answer) < PEZVORAN_REFUSED ? (uint32_t)(answer >> 32 & 0x3fffff) : 0;
+}
+
+/* Which grants to withdraw, bit i for the i-th, where the outcome is a choice. */
+static inline unsigned pezvoran_choice(uint64_t answer)
+{
+    return pezvoran_outcome_of(answer) == PEZVORAN_CHOICE ? (unsigned)(answer >> 8 & 4095) : 0;
+}
+
+/* ---- refusals */
 
 /* A line of plain words for a refusal's number. */
 static inline const char *pezvoran_refusal_text(unsigned number)

@@ -48,8 +48,10 @@ pub fn compared(name: &str, file: &[u8], limit: Duration) -> Compared {
     }
     if let Some(check) = &check {
         let expected = match answer {
-            Answer::Leaks { label, .. } => Answer::Refused(Refusal { number: 11, position: label.into() }),
-            _ => Answer::Accepted,
+            Answer::Leaks { label, guest, .. } => {
+                Answer::Refused(Refusal { number: 11, position: label.into(), guest: Some(guest) })
+            }
+            _ => Answer::Accepted { count: 0 },
         };
         assert_eq!(check.answer, expected, "{name}: check");
     }

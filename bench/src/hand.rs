@@ -76,7 +76,7 @@ pub fn verdict(file: &[u8]) -> (Answer, Vec<u64>) {
     let program = match read(file) {
         Ok(program) => program,
         Err(refusal) => {
-            let refusal = Refusal { number: refusal.number, position: refusal.position as u64 };
+            let refusal = Refusal { number: refusal.number, position: refusal.position as u64, guest: None };
             return (Answer::Refused(refusal), Vec::new());
         }
     };
@@ -87,7 +87,7 @@ pub fn verdict(file: &[u8]) -> (Answer, Vec<u64>) {
     table.truncate(ROWS);
     let facts = table.iter().map(|row| row.count_ones()).sum();
     let answer = match program.forbidden.labels().find(|&l| table[s(BAG)] >> l & 1 == 1) {
-        Some(l) => Answer::Leaks { label: l, facts },
+        Some(l) => Answer::Leaks { label: l, guest: 3, facts },
         None => Answer::Confined { facts },
     };
     (answer, table)

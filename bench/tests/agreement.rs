@@ -19,7 +19,7 @@ fn same_tables() {
                 assert_eq!(table, passed, "{name}");
             }
             Err(refusal) => {
-                let refusal = Refusal { number: refusal.number, position: refusal.position as u64 };
+                let refusal = Refusal { number: refusal.number, position: refusal.position as u64, guest: None };
                 assert_eq!(answer, Answer::Refused(refusal), "{name}");
             }
         }

@@ -96,9 +96,11 @@ static int print_answer(uint64_t answer, const uint64_t *table)
         printf("accepted\n");
         return EXIT_SUCCESS;
     case PEZVORAN_REFUSED:
-        break;
+        return print_refusal(answer);
+    default:
+        give_up("the archive", "answers what is neither verdict nor check");
     }
-    return print_refusal(answer);
+    return EXIT_TROUBLE;
 }
 
 int main(int count, char **words)

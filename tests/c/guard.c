@@ -9,7 +9,7 @@
 #include <string.h>
 #include <sys/mman.h>
 
-enum { GUARD = 64, GUARD_BYTE = 0xa5, PAGE = 65536 }; /* PAGE: a multiple of the usual page sizes */
+enum { GUARD = 64, GUARD_BYTE = 0xa5, PAGE = 65536, GUEST = 3 }; /* PAGE: a multiple of the usual page sizes; GUEST: the guest's label */
 
 static const uint8_t confined[] = {2, 5, 1, 0, 3, 5, 5, 2, 0, 255, 8, 2, 5};
 static const uint8_t leaks[] = {2, 5, 1, 0, 3, 5, 5, 2, 0, 255, 8, 2, 5, 6, 2};
@@ -102,9 +102,10 @@ static void must_answer(size_t i, size_t table_length, uint64_t answer)
     must(pezvoran_outcome_of(answer) == cases[i].outcome, "outcome");
     if (cases[i].outcome == PEZVORAN_REFUSED) {
         must(pezvoran_number(answer) == cases[i].first && pezvoran_position(answer) == cases[i].second, "number and position");
-        must(pezvoran_label(answer) == 0 && pezvoran_count(answer) == 0, "a refusal has no label and no count");
+        must(pezvoran_label(answer) == 0 && pezvoran_guest(answer) == 0 && pezvoran_count(answer) == 0, "a verdict's refusal has no label, guest and count");
     } else {
         must(pezvoran_label(answer) == cases[i].first && pezvoran_count(answer) == cases[i].second, "label and count");
+        must(pezvoran_guest(answer) == (cases[i].outcome == PEZVORAN_LEAKS ? GUEST : 0), "leaks has the guest, confined none");
         must(pezvoran_number(answer) == 0 && pezvoran_position(answer) == 0, "a verdict has no number and no position");
     }
 }
@@ -168,6 +169,7 @@ static void must_check(size_t i, size_t table_length, uint64_t answer, const uin
         break;
     case PEZVORAN_LEAKS:
         must(pezvoran_number(checked) == PEZVORAN_FORBIDDEN_HELD && pezvoran_position(checked) == pezvoran_label(answer), "refused 11 with the label");
+        must(pezvoran_guest(checked) == GUEST, "11 has the guest");
         break;
     default:
         must(checked == answer, "the check refuses a file as the verdict does");

@@ -1,2 +1,3 @@
 -- The word of an outcome. Assumes nothing.
 pub mod Word
+pub mod Examples

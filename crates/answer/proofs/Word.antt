@@ -1,76 +1,98 @@
--- Each part of an outcome can be read back from its word, and no two outcomes have the same word. Assumes nothing.
-use mathlib.Core.Path.{_≡_, refl, sym, ap, _∙_}
+-- Every part of an outcome is read back from its word, so no two outcomes have the same word. Assumes nothing.
+use mathlib.Core.Path.{_≡_, refl, sym, ap, subst, _∙_}
+use mathlib.Core.Logic.{inl, inr}
 use mathlib.Core.Bool.{cond}
-use Prim.Native.Nat.{ℕ, zero, suc, _%_, _^_, _<_}
+use Prim.Native.Nat.{ℕ, zero, suc, _+_, _*_, _/_, _^_, _<_}
 use native.Mathlib.Omega.{arith}
 use lib.Dec.{eqb}
-use borrow.Author.Tests.{eq-eqb, ne-eqb}
-use Rattle.answer.specs.Outcome.{Outcome, confined, leaks, refused, accepted, numberOf, positionOf, labelOf, countOf, kindOf, packed, Ranged, numberIn, positionIn, kindIn, labelIn, countIn, ReadBack}
+use borrow.Author.Tests.{ne-eqb}
+use Rattle.answer.specs.Outcome.{Outcome, confined, leaks, accepted, refused, holds, choice, noneHelps, Parts, parts, partsOf, packed, Ranged, field, partsIn, ReadBack}
 
-pub number-read : (o : Outcome) → Ranged o → numberIn (packed o) ≡ numberOf o
-number-read (confined c) r = omega arith
-number-read (leaks l c) r = omega arith
-number-read (refused n at) r = omega arith
-number-read (accepted c) r = omega arith
+-- ---- the parts
 
--- one that is no refusal has 0 in the lowest bits
-whole : {A : Type 0} (w : ℕ) (a b c : A) → w % 16 ≡ 0 → a ≡ c → cond (eqb (w % 16) 0) a b ≡ c
-whole w a b c e h = rw (eq-eqb (w % 16) 0 e) h
+same : {k n at l g c w k' n' at' l' g' c' w' : ℕ} → k ≡ k' → n ≡ n' → at ≡ at' → l ≡ l' → g ≡ g' → c ≡ c' → w ≡ w'
+    → parts k n at l g c w ≡ parts k' n' at' l' g' c' w'
+same k n at l g c w = λ i. parts (k i) (n i) (at i) (l i) (g i) (c i) (w i)
 
-turned : {A : Type 0} (w : ℕ) (a b c : A) → (w % 16 ≡ 0 → ⊥) → b ≡ c → cond (eqb (w % 16) 0) a b ≡ c
-turned w a b c e h = rw (ne-eqb (w % 16) 0 e) h
+-- above the label stands the guest's, and above both the count
+holder-read : (at g : ℕ) → at < 2 ^ 13 → g < 2 ^ 8 → field 17 8 (packed (holds at g)) ≡ g
+holder-read at g h k = let above : packed (holds at g) / 2 ^ 17 ≡ g = omega arith in rw above (omega arith)
 
-pub position-read : (o : Outcome) → Ranged o → positionIn (packed o) ≡ positionOf o
-position-read (confined c) r = whole (packed (confined c)) _ _ _ (number-read (confined c) r) refl
-position-read (leaks l c) r = whole (packed (leaks l c)) _ _ _ (number-read (leaks l c) r) refl
-position-read (refused n at) r = turned (packed (refused n at)) _ _ _ (λ z. omega arith) (omega arith)
-position-read (accepted c) r = whole (packed (accepted c)) _ _ _ (number-read (accepted c) r) refl
+guest-read : (l g c : ℕ) → l < 2 ^ 9 → g < 2 ^ 8 → field 17 8 (packed (leaks l g c)) ≡ g
+guest-read l g c h k = let above : packed (leaks l g c) / 2 ^ 17 ≡ g + c * 2 ^ 15 = omega arith in rw above (omega arith)
 
-pub kind-read : (o : Outcome) → Ranged o → kindIn (packed o) ≡ kindOf o
-kind-read (confined c) r = whole (packed (confined c)) _ _ _ (number-read (confined c) r) (omega arith)
-kind-read (leaks l c) r = whole (packed (leaks l c)) _ _ _ (number-read (leaks l c) r) (omega arith)
-kind-read (refused n at) r = turned (packed (refused n at)) _ _ _ (λ z. omega arith) refl
-kind-read (accepted c) r = whole (packed (accepted c)) _ _ _ (number-read (accepted c) r) (omega arith)
+count-read : (l g c : ℕ) → l < 2 ^ 9 → g < 2 ^ 8 → c < 2 ^ 22 → field 32 22 (packed (leaks l g c)) ≡ c
+count-read l g c h k b = let above : packed (leaks l g c) / 2 ^ 32 ≡ c = omega arith in rw above (omega arith)
 
-pub label-read : (o : Outcome) → Ranged o → labelIn (packed o) ≡ labelOf o
-label-read (confined c) r = whole (packed (confined c)) _ _ _ (number-read (confined c) r) (omega arith)
-label-read (leaks l c) r = whole (packed (leaks l c)) _ _ _ (number-read (leaks l c) r) (omega arith)
-label-read (refused n at) r = turned (packed (refused n at)) _ _ _ (λ z. omega arith) refl
-label-read (accepted c) r = whole (packed (accepted c)) _ _ _ (number-read (accepted c) r) (omega arith)
-
-pub count-read : (o : Outcome) → Ranged o → countIn (packed o) ≡ countOf o
-count-read (confined c) r = whole (packed (confined c)) _ _ _ (number-read (confined c) r) (omega arith)
-count-read (leaks l c) r = whole (packed (leaks l c)) _ _ _ (number-read (leaks l c) r) (omega arith)
-count-read (refused n at) r = turned (packed (refused n at)) _ _ _ (λ z. omega arith) refl
-count-read (accepted c) r = whole (packed (accepted c)) _ _ _ (number-read (accepted c) r) (omega arith)
+-- 16 is an outcome of its own
+sixteen-read : (at : ℕ) → at < 2 ^ 56 → ReadBack (refused 16 at)
+sixteen-read at h =
+    let low : field 0 4 (packed (refused 16 at)) ≡ 0 = omega arith in
+    let kind : field 4 4 (packed (refused 16 at)) ≡ 3 = omega arith in
+    rw (low, kind) (same refl refl (omega arith) refl refl refl refl)
 
 pub read-back : (o : Outcome) → Ranged o → ReadBack o
-read-back o r = record { kind = kind-read o r; number = number-read o r; position = position-read o r; label = label-read o r; count = count-read o r }
+read-back (confined c) r =
+    let low : field 0 4 (packed (confined c)) ≡ 0 = omega arith in
+    let kind : field 4 4 (packed (confined c)) ≡ 0 = omega arith in
+    rw (low, kind) (same refl refl refl refl refl (omega arith) refl)
+read-back (leaks l g c) r =
+    let low : field 0 4 (packed (leaks l g c)) ≡ 0 = omega arith in
+    let kind : field 4 4 (packed (leaks l g c)) ≡ 1 = omega arith in
+    rw (low, kind) (same refl refl refl (omega arith) (guest-read l g c (r .0) (r .1)) (count-read l g c (r .0) (r .1) (r .2)) refl)
+read-back (accepted c) r =
+    let low : field 0 4 (packed (accepted c)) ≡ 0 = omega arith in
+    let kind : field 4 4 (packed (accepted c)) ≡ 2 = omega arith in
+    rw (low, kind) (same refl refl refl refl refl (omega arith) refl)
+read-back (refused n at) (inl r) =
+    let small = ne-eqb n 16 (λ e. omega arith) in
+    let some = ne-eqb n 0 (λ e. omega arith) in
+    let low : field 0 4 (n + at * 2 ^ 4) ≡ n = omega arith in
+    rw (small, low, some, some, ne-eqb n 11 (r .2), small) (same refl refl (omega arith) refl refl refl refl)
+read-back (refused n at) (inr r) = subst (λ (m : ℕ). ReadBack (refused m at)) (sym (r .0)) (sixteen-read at (r .1))
+read-back (holds at g) r =
+    let low : field 0 4 (packed (holds at g)) ≡ 11 = omega arith in
+    rw low (same refl refl (omega arith) refl (holder-read at g (r .0) (r .1)) refl refl)
+read-back (choice w) r =
+    let low : field 0 4 (packed (choice w)) ≡ 0 = omega arith in
+    let kind : field 4 4 (packed (choice w)) ≡ 4 = omega arith in
+    rw (low, kind) (same refl refl refl refl refl refl (omega arith))
+read-back noneHelps r = refl
 
 -- ---- the whole outcome
 
 -- it is what its parts say
-unfoldable pub assembled : ℕ → ℕ → ℕ → ℕ → ℕ → Outcome
-assembled zero n at l c = confined c
-assembled (suc zero) n at l c = leaks l c
-assembled (suc (suc zero)) n at l c = accepted c
-assembled (suc (suc (suc k))) n at l c = refused n at
+unfoldable assembled : ℕ → Parts → Outcome
+assembled zero p = confined (p .count)
+assembled (suc zero) p = leaks (p .label) (p .guest) (p .count)
+assembled (suc (suc zero)) p = accepted (p .count)
+assembled (suc (suc (suc zero))) p = cond (eqb (p .number) 11) (holds (p .position) (p .guest)) (refused (p .number) (p .position))
+assembled (suc (suc (suc (suc zero)))) p = choice (p .choice)
+assembled (suc (suc (suc (suc (suc k))))) p = noneHelps
 
-parts : (o : Outcome) → assembled (kindOf o) (numberOf o) (positionOf o) (labelOf o) (countOf o) ≡ o
+unfoldable whole : Parts → Outcome
 unfolding assembled
-parts (confined c) = refl
-parts (leaks l c) = refl
-parts (refused n at) = refl
-parts (accepted c) = refl
+whole p = assembled (p .kind) p
+
+whole-parts : (o : Outcome) → Ranged o → whole (partsOf o) ≡ o
+unfolding whole
+whole-parts (confined c) r = refl
+whole-parts (leaks l g c) r = refl
+whole-parts (accepted c) r = refl
+whole-parts (refused n at) (inl r) = rw (ne-eqb n 11 (r .2))
+whole-parts (refused n at) (inr r) = rw (r .0)
+whole-parts (holds at g) r = refl
+whole-parts (choice w) r = refl
+whole-parts noneHelps r = refl
 
 -- so it can be read back whole
 unfoldable pub unpacked : ℕ → Outcome
-unfolding assembled
-unpacked w = assembled (kindIn w) (numberIn w) (positionIn w) (labelIn w) (countIn w)
+unfolding whole
+unpacked w = whole (partsIn w)
 
 pub unpacked-packed : (o : Outcome) → Ranged o → unpacked (packed o) ≡ o
 unfolding unpacked
-unpacked-packed o r = rw (kind-read o r, position-read o r, label-read o r, count-read o r, number-read o r) (parts o)
+unpacked-packed o r = ap whole (read-back o r) ∙ whole-parts o r
 
 pub packed-injective : (o q : Outcome) → Ranged o → Ranged q → packed o ≡ packed q → o ≡ q
 packed-injective o q r s e = sym (unpacked-packed o r) ∙ ap unpacked e ∙ unpacked-packed q s
@@ -78,6 +100,10 @@ packed-injective o q r s e = sym (unpacked-packed o r) ∙ ap unpacked e ∙ unp
 -- and the word has 64 bits
 pub packed-below : (o : Outcome) → Ranged o → packed o < 2 ^ 64
 packed-below (confined c) r = omega arith
-packed-below (leaks l c) r = omega arith
-packed-below (refused n at) r = omega arith
+packed-below (leaks l g c) r = omega arith
 packed-below (accepted c) r = omega arith
+packed-below (refused n at) (inl r) = rw (ne-eqb n 16 (λ e. omega arith)) (omega arith)
+packed-below (refused n at) (inr r) = rw (r .0) (omega arith)
+packed-below (holds at g) r = omega arith
+packed-below (choice w) r = omega arith
+packed-below noneHelps r = omega arith

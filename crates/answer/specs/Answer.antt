@@ -1,18 +1,13 @@
 -- The outcome that an answer of the code stands for. Assumes nothing.
-use Prim.Native.Nat.{_^_, _<_}
 use Rattle.answer.specs.declared.Answer.{Answer}
-use Rattle.answer.specs.declared.Answer.the-variants.{Confined, Leaks, Refused, Accepted}
-use Rattle.answer.specs.Outcome.{Outcome, confined, leaks, refused, accepted}
+use Rattle.answer.specs.declared.Answer.the-variants.{Confined, Leaks, Accepted, Refused, Holds, Choice, NoneHelps}
+use Rattle.answer.specs.Outcome.{Outcome, confined, leaks, accepted, refused, holds, choice, noneHelps}
 
 abbrev pub outcomeOf : Answer → Outcome
 outcomeOf (Confined count) = confined count
-outcomeOf (Leaks label count) = leaks label count
+outcomeOf (Leaks label guest count) = leaks label guest count
+outcomeOf (Accepted count) = accepted count
 outcomeOf (Refused number position) = refused number position
-outcomeOf Accepted = accepted 0
-
--- the position of a refusal leaves room for its number beside it
-abbrev pub Placed : Answer → Type 0
-Placed (Confined count) = Unit {0}
-Placed (Leaks label count) = Unit {0}
-Placed (Refused number position) = position < 2 ^ 59
-Placed Accepted = Unit {0}
+outcomeOf (Holds label guest) = holds label guest
+outcomeOf (Choice word) = choice word
+outcomeOf NoneHelps = noneHelps

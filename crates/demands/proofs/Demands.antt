@@ -17,12 +17,12 @@ use Rattle.program.specs.Program.{Guest, programOf}
 use Rattle.analysis.specs.Verdict.{leastTable}
 use Rattle.analysis.proofs.Proper.{readable-proper}
 use Rattle.analysis.proofs.Least.{table-length, table-derives}
-use Rattle.answer.specs.Outcome.{confined, leaks, countOf}
+use Rattle.answer.specs.Outcome.{Outcome, confined, leaks, partsOf}
 use Rattle.verdicts.specs.Verdict.{judged, verdictTable, programIn, forbiddenHeld}
 use Rattle.verdicts.specs.Check.{cleaned}
 use Rattle.verdicts.proofs.Cleaned.{cleaned-has, has-cleaned}
 use Rattle.verdicts.proofs.Judged.{none-forbidden}
-use Rattle.verdicts.proofs.Lists.{verdict-answers, verdict-refuses, refused-exactly, check-answers, check-refuses, check-accepts, accepted-closed}
+use Rattle.verdicts.proofs.Lists.{verdict-answers, verdict-refuses, refused-exactly, check-answers, check-refuses, check-holds, check-accepts, accepted-closed}
 use Rattle.verdicts.proofs.Left.{refused-unchanged, row-left, beyond-left, length-left, lowest-label}
 use Rattle.verdicts.proofs.Ranged.{verdict-read-back, check-read-back}
 use Rattle.verdicts.proofs.Demand.{verdict-judged, table-left, leaks-iff, confined-iff, confined-accepts}
@@ -40,6 +40,7 @@ demand-1-holds L five xs =
       verdict-refuses = verdict-refuses L five xs;
       check-answers = check-answers L five xs;
       check-refuses = check-refuses L five xs;
+      check-holds = check-holds L five xs;
       refused-exactly = refused-exactly L five xs;
       readable-exactly = readable-iff L five xs;
       records-read = λ c. concatenation-read L five xs c .0;
@@ -51,9 +52,9 @@ demand-1-holds L five xs =
 
 -- ---- demand 2
 
-same : (b : Bool) (label count : ℕ) → countOf (cond b (confined count) (leaks label count)) ≡ count
-same true label count = refl
-same false label count = refl
+counted : (b : Bool) (label guest count : ℕ) → partsOf (cond b (confined count) (leaks label guest count)) .count ≡ count
+counted true label guest count = refl
+counted false label guest count = refl
 
 module _ (L : ℕ) (five : 5 ≤ L) (xs : List ℕ) (ok : Readable L xs) (t : Table) (full : rowCount L ≤ length t) where
   long : length (leastTable L (programIn L xs)) ≡ rowCount L
@@ -64,9 +65,9 @@ module _ (L : ℕ) (five : 5 ≤ L) (xs : List ℕ) (ok : Readable L xs) (t : Ta
       ap (facts L) (table-left L xs five ok t full)
       ∙ facts-append L (leastTable L (programIn L xs)) (drop (rowCount L) t) (omega (arith, long))
 
-  count-is : countOf (judged L (programIn L xs)) ≡ facts L (leastTable L (programIn L xs))
+  count-is : partsOf (judged L (programIn L xs)) .count ≡ facts L (leastTable L (programIn L xs))
   unfolding judged
-  count-is = same (eqb (forbiddenHeld (leastTable L (programIn L xs)) (programIn L xs .guests)) 0) _ _
+  count-is = counted (eqb (forbiddenHeld (leastTable L (programIn L xs)) (programIn L xs .guests)) 0) _ _ _
 
   demand-2-holds : Demand2 L xs t
   demand-2-holds =
@@ -75,7 +76,7 @@ module _ (L : ℕ) (five : 5 ≤ L) (xs : List ℕ) (ok : Readable L xs) (t : Ta
           (λ e. table-derives L (programIn L xs) (readable-proper L xs five ok) r l .0 (rw (row-left L xs five ok t full r h) at e)),
           (λ d. rw (row-left L xs five ok t full r h) (table-derives L (programIn L xs) (readable-proper L xs five ok) r l .1 d)),
         );
-        counted = ap countOf (verdict-judged L xs five ok (length t) full) ∙ count-is ∙ sym facts-left;
+        counted = ap (λ (o : Outcome). partsOf o .count) (verdict-judged L xs five ok (length t) full) ∙ count-is ∙ sym facts-left;
         beyond-stay = beyond-left L xs five ok t full;
         same-length = length-left L xs five ok t full;
       }

@@ -12,10 +12,10 @@ use Rattle.rules.specs.Told.{Derives}
 use Rattle.format.specs.Sheet.{start}
 use Rattle.format.specs.Reading.{readFile, Readable, sheetAfter, positioned, Concatenation}
 use Rattle.analysis.specs.Rules.{rules}
-use Rattle.answer.specs.Outcome.{leaks, refused, countOf, ReadBack}
+use Rattle.answer.specs.Outcome.{leaks, refused, holds, partsOf, ReadBack}
 use Rattle.verdicts.specs.Verdict.{verdictOutcome, verdictTable, programIn, Leaks, Confined, Refused}
-use Rattle.verdicts.specs.Check.{cleaned, Counts, checkOutcome, Accepts}
-use Rattle.verdicts.specs.Lists.{VerdictRefuses, CheckRefuses, LowestForbidden, Acceptable}
+use Rattle.verdicts.specs.Check.{cleaned, Counts, checkOutcome, Accepts, Holds}
+use Rattle.verdicts.specs.Lists.{VerdictRefuses, CheckRefuses, CheckHolds, LowestForbidden, Acceptable}
 use Rattle.soundness.specs.Confined as machine
 
 -- Demand 1, of a list of bytes. That every call ends is in the contracts: they equate the answer with a definition, and none has a `requires`.
@@ -23,14 +23,16 @@ pub record Demand1 (L : ℕ) (xs : List ℕ) : Type 0 where
   -- "The answer to a statement file of whatever content is confined, leaks .., or a numbered refusal .."
   pub verdict-answers : (words : ℕ)
       → Confined (verdictOutcome L words xs) ⊎ (Leaks (verdictOutcome L words xs) ⊎ Refused 9 (verdictOutcome L words xs))
-  -- ".. leaks with the lowest forbidden label held .."
-  pub lowest-label : (t : Table) (l count : ℕ) → verdictOutcome L (length t) xs ≡ leaks l count
-      → LowestForbidden (programIn L xs .sheet) (verdictTable L xs t) l
+  -- ".. leaks with the lowest forbidden label held ..", and beside it the guest's label
+  pub lowest-label : (t : Table) (l guest count : ℕ) → verdictOutcome L (length t) xs ≡ leaks l guest count
+      → LowestForbidden (programIn L xs .sheet) (verdictTable L xs t) l × (guest ≡ 3)
   -- ".. a numbered refusal with its position;": number and position are those of document 01's list
   pub verdict-refuses : (words n at : ℕ) → (verdictOutcome L words xs ≡ refused n at) ↔ VerdictRefuses L xs words n at
   -- "to a file with a finished table it is accepted or a refusal."
-  pub check-answers : (t : Table) → Accepts L xs t ⊎ Refused 11 (checkOutcome L xs t)
+  pub check-answers : (t : Table) → Accepts L xs t ⊎ (Refused 10 (checkOutcome L xs t) ⊎ Holds (checkOutcome L xs t))
+  -- 1 to 10, and 11, which has the guest's label beside its position
   pub check-refuses : (t : Table) (n at : ℕ) → (checkOutcome L xs t ≡ refused n at) ↔ CheckRefuses L xs t n at
+  pub check-holds : (t : Table) (l guest : ℕ) → (checkOutcome L xs t ≡ holds l guest) ↔ CheckHolds L xs t l guest
   -- "A file is refused only where it breaks the layout, or where file or table has a wrong size.": there, and nowhere else
   pub refused-exactly : (words : ℕ) → Refused 9 (verdictOutcome L words xs) ↔ ((words < rowCount L) ⊎ (Concatenation L xs → ⊥))
   pub readable-exactly : Readable L xs ↔ Concatenation L xs
@@ -48,7 +50,7 @@ pub record Demand2 (L : ℕ) (xs : List ℕ) (t : Table) : Type 0 where
   -- "The table left after a verdict holds every fact that the analysis rules derive from the file, and no other fact."
   pub exactly-derived : (r l : ℕ) → r < rowCount L → Has (verdictTable L xs t) r l ↔ Derives L (rules L (programIn L xs)) (emptyTable L) r l
   -- "The fact count is the number of these."
-  pub counted : countOf (verdictOutcome L (length t) xs) ≡ facts L (verdictTable L xs t)
+  pub counted : partsOf (verdictOutcome L (length t) xs) .count ≡ facts L (verdictTable L xs t)
   -- document 01: "words beyond stay untouched"
   pub beyond-stay : drop (rowCount L) (verdictTable L xs t) ≡ drop (rowCount L) t
   pub same-length : length (verdictTable L xs t) ≡ length t

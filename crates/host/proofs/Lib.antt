@@ -1,2 +1,3 @@
--- Laws of the array `host`. Assumes nothing.
+-- Laws of the array `host`, and of the arrays of what functions hand back. Assumes nothing.
 pub mod Rows
+pub mod Returns

@@ -1,14 +1,14 @@
 -- What the engine goes by beside the table: the labels of functions and of built-in objects, the names of each class, the formals of functions and the
 -- variables that they hand back, as words. Assumes nothing.
 use mathlib.Core.Path.{_≡_}
-use mathlib.Core.Logic.{_↔_}
+use mathlib.Core.Logic.{_⊎_, _↔_}
 use mathlib.Core.List.{List, List·Memᴰ}
 use mathlib.Core.Bool.{Bool, true, cond}
 use Prim.Native.Nat.{ℕ, _+_, _-_, _*_, _/_, _%_, _^_, _<_}
 use lib.ListN.{getD}
 use lib.Dec.{ltb}
 use Rattle.words.specs.Words.{bit}
-use Rattle.rows.specs.Edition.{labels, words}
+use Rattle.rows.specs.Edition.{words}
 use Rattle.rows.specs.Row.{Key}
 use Rattle.format.specs.Sheet.{builtIn}
 use Rattle.rules.specs.Table.{Table, Has}
@@ -45,16 +45,32 @@ returnsFor r f = cond (ltb f 64) (r .first) (cond (ltb f 128) (r .second) (cond 
 abbrev pub HandsBack : Returns → ℕ → ℕ → Type 0
 HandsBack r f x = bit (returnedWord (returnsFor r f) (f % 64) (x / 64)) (x % 64) ≡ 1
 
--- the arrays are those of program p
-pub record Lays (wide : Bool) (p : Program) (host formals : List ℕ) : Type 0 where
-  pub functions : (f : ℕ) → f < labels wide → (bit (functionsIn wide host) f ≡ 1) ↔ (isFunction (p .sheet) f ≡ true)
-  pub built-ins : (l : ℕ) → l < labels wide → (bit (builtInsIn wide host) l ≡ 1) ↔ (builtIn (p .sheet) l ≡ true)
+-- the array is that of program p
+pub record Lays (wide : Bool) (p : Program) (host : List ℕ) : Type 0 where
+  pub functions : (f : ℕ) → (bit (functionsIn wide host) f ≡ 1) ↔ (isFunction (p .sheet) f ≡ true)
+  pub built-ins : (l : ℕ) → (bit (builtInsIn wide host) l ≡ 1) ↔ (builtIn (p .sheet) l ≡ true)
   pub names : (key n : ℕ) → Key key → (bit (namesIn host key) n ≡ 1) ↔ List·Memᴰ n (namesOf (p .sheet) key)
-  pub formals-are : (f j : ℕ) → f < labels wide → j < 7 → getD (p .sheet .formals) (7 * f + j) 0 ≡ getD formals (7 * f + j) 0
 
-abbrev pub Returning : Bool → Program → Returns → Type 0
-Returning wide p r = (f x : ℕ) → f < labels wide → x < 256 → HandsBack r f x ↔ List·Memᴰ x (returnsOf p f)
+-- every label of s is a function's
+abbrev pub Functions : Program → ℕ → Type 0
+Functions p s = (f : ℕ) → bit s f ≡ 1 → isFunction (p .sheet) f ≡ true
+
+-- the array has the inputs of p's functions, seven of each
+abbrev pub FormalsOf : Program → List ℕ → Type 0
+FormalsOf p formals = (f j : ℕ) → isFunction (p .sheet) f ≡ true → j < 7 → getD (p .sheet .formals) (7 * f + j) 0 ≡ getD formals (7 * f + j) 0
+
+-- the arrays have the variables that p's functions return
+abbrev pub ReturnsOf : Program → Returns → Type 0
+ReturnsOf p r = (f x : ℕ) → isFunction (p .sheet) f ≡ true → ((x < 256) × HandsBack r f x) ↔ List·Memᴰ x (returnsOf p f)
 
 -- what function f hands back: the labels of the variables that it returns
 abbrev pub handedBack : Returns → Table → ℕ → ℕ → Type 0
 handedBack r t f m = (x : ℕ) × (x < 256) × HandsBack r f x × Has t x m
+
+
+-- r is `start` with the labels of the variables that the f-th function of the array ws returns
+pub record Handing (ws : List ℕ) (f : ℕ) (t : Table) (start r : ℕ) : Type 0 where
+  pub source : (m : ℕ) → bit r m ≡ 1
+      → (bit start m ≡ 1) ⊎ ((x : ℕ) × (x < 256) × (bit (returnedWord ws f (x / 64)) (x % 64) ≡ 1) × Has t x m)
+  pub keeps : (m : ℕ) → bit start m ≡ 1 → bit r m ≡ 1
+  pub all : (x m : ℕ) → x < 256 → bit (returnedWord ws f (x / 64)) (x % 64) ≡ 1 → Has t x m → bit r m ≡ 1

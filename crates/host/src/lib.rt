@@ -3,6 +3,7 @@ ghost use mathlib.Core.Path.{_≡_};
 ghost use Rattle.rows.specs.Row.{Key};
 ghost use Rattle.sets.specs.Value.{value};
 ghost use Rattle.host.specs.Lays.{functionsIn, builtInsIn, namesIn};
+
 pub mod handed;
 
 use sets::Set;

@@ -70,20 +70,24 @@ Meets wide o p slot t s v = (l r m : ℕ) → bit s l ≡ 1 → Takes wide p slo
 abbrev pub Unites : Bool → Program → Slot → List ℕ → List ℕ → ℕ → ℕ → Type 0
 Unites wide p slot old t s v = Gathered (Tells wide p slot) (tableOf wide old) (tableOf wide t) s v
 
--- the promise of a pair of s and v
-abbrev pub Promise : Bool → ℕ → Program → Slot → List ℕ → List ℕ → ℕ → ℕ → Type 0
-Promise wide o p chains old t s v = Unites wide p chains old t s v
-Promise wide o p throws old t s v = Unites wide p throws old t s v
-Promise wide o p handed old t s v = Unites wide p handed old t s v
-Promise wide o p (under key) old t s v = Unites wide p (under key) old t s v
-Promise wide o p (input j) old t s v = Meets wide o p (input j) t s v
-Promise wide o p (stored key) old t s v = Meets wide o p (stored key) t s v
-Promise wide o p unused old t s v = Unit {0}
+-- what is looked up is a union
+abbrev pub Union : Slot → Type 0
+Union chains = Unit {0}
+Union throws = Unit {0}
+Union handed = Unit {0}
+Union (under key) = Unit {0}
+Union (input j) = ⊥
+Union (stored key) = ⊥
+Union unused = ⊥
+
+-- the promise of a pair of s and v; no row is joined to for what is looked up, so that `meet` says something of what is spread alone
+pub record Promise (wide : Bool) (o : ℕ) (p : Program) (slot : Slot) (old t : List ℕ) (s v : ℕ) : Type 0 where
+  pub union : Union slot → Unites wide p slot old t s v
+  pub meet : Meets wide o p slot t s v
 
 -- every pair keeps its promise
-abbrev pub Remembers : Bool → ℕ → Program → List ℕ → List ℕ → List ℕ → Type 0
-Remembers wide o p old t keeps =
-    (q : ℕ) → q < pairCount wide → Promise wide o p (slotOf q) old t (keptSet wide keeps q) (keptWith wide keeps q)
+pub record Remembers (wide : Bool) (o : ℕ) (p : Program) (old t keeps : List ℕ) : Type 0 where
+  pub pair : (q : ℕ) → q < pairCount wide → Promise wide o p (slotOf q) old t (keptSet wide keeps q) (keptWith wide keeps q)
 
 -- what is told for the labels s: nothing that the table does not tell, and all that it told, but for what `have` holds already
 pub record Answer (F : Table → ℕ → ℕ → Type 0) (old t : Table) (s have r : ℕ) : Type 0 where

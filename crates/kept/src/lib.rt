@@ -7,7 +7,7 @@ ghost use Prim.Native.Nat.{ℕ, _≤_, _<_};
 ghost use Rattle.sets.specs.Value.{value};
 ghost use Rattle.program.specs.Program.{Program};
 ghost use Rattle.kept.specs.Pairs.{pairCount, keptSet, keptWith, Refreshed, Cleared, Asks, Answers, Leaves, Learns};
-ghost use Rattle.kept.specs.Promise.{Remembers};
+ghost use Rattle.kept.specs.Promise.{under, stored, slotOf, Remembers};
 use sets::Set;
 
 // Whether there is room for a pair.
@@ -57,12 +57,13 @@ pub fn ask(keeps: &[u64; 256], wide: bool, pair: usize, s: Set, have: Set) -> As
     ensures { λ r. ⌜ Asks wide (now (keeps .entry)) pair (value wide s) (value wide have) (value wide (r .base)) (value wide (r .rest)) (r .fresh) ⌝ }
 {
     let none = sets::none(wide);
+    let whole = Asked {
+        base: none,
+        rest: s,
+        fresh: false,
+    };
     if !is_kept(wide, pair) {
-        return Asked {
-            base: none,
-            rest: s,
-            fresh: false,
-        };
+        return whole;
     }
     let a = set_of(keeps, wide, pair);
     let v = with_of(keeps, wide, pair);
@@ -201,3 +202,35 @@ pub const THROWS: usize = 4;
 pub const HANDED: usize = 5;
 
 pub const INPUTS: usize = 17;
+
+// The pair for the properties under a key.
+pub fn under_pair(key: u8) -> usize
+    requires { ⌜ (key < 136) × (key < 128 → key < 32) ⌝ }
+    ensures { λ r. ⌜ slotOf r ≡ under key ⌝ }
+    ensures bound { λ r. ⌜ r < 128 ⌝ }
+{
+    let k = key as usize;
+    if 128 <= k {
+        return k - 122;
+    }
+    if k == 0 {
+        return 32;
+    }
+    if k < 4 {
+        return 13 + k;
+    }
+    32 + k
+}
+
+// The pair for values that are stored under a key.
+pub fn stored_pair(key: u8) -> usize
+    requires { ⌜ (key < 136) × (key < 128 → key < 32) ⌝ }
+    ensures { λ r. ⌜ slotOf r ≡ stored key ⌝ }
+    ensures bound { λ r. ⌜ r < 128 ⌝ }
+{
+    let k = key as usize;
+    if 128 <= k {
+        return k - 104;
+    }
+    64 + k
+}

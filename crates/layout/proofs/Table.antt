@@ -52,7 +52,7 @@ allShort (cs ∷ rows) = leb (length cs) 11 && allShort rows
 kinds-short : allShort kinds ≡ true
 kinds-short = refl
 
-and-parts : (a b : Bool) → (a && b) ≡ true → (a ≡ true) × (b ≡ true)
+pub and-parts : (a b : Bool) → (a && b) ≡ true → (a ≡ true) × (b ≡ true)
 and-parts true b e = (refl, e)
 and-parts false b e = absurd (true≢false (sym e))
 

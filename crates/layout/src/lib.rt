@@ -1,7 +1,7 @@
 // The kinds of record of a statement file, as one table: how long each body is, and of which class each of its bytes is (document 01,
 // "The statement file"). A new kind of record is a new row here and in specs/Layout.antt. The reader copies both tables once and walks them.
 ghost use mathlib.Core.Path.{_≡_};
-ghost use Rattle.layout.specs.Layout.{bodyLengths, fieldCodes};
+ghost use Rattle.layout.specs.Layout.{bodyLength, bodyLengths, fieldCodes};
 
 // How long the body of each kind is, 0 where there is no such kind.
 const LENGTHS: [u8; 27] = [
@@ -75,4 +75,23 @@ pub fn classes() -> [[u8; 11]; 27]
     ensures { λ r. ⌜ r ≡ fieldCodes ⌝ }
 {
     CLASSES
+}
+
+// The same lengths as hexadecimal digits, kinds 0 to 15 and 16 to 31 from the right: to read one no table is copied.
+const LOW_LENGTHS: u64 = 0x231381320;
+
+const HIGH_LENGTHS: u64 = 0x2222ba43453;
+
+// How long the body of one kind is.
+pub fn body_length(kind: u8) -> usize
+    ensures { λ r. ⌜ r ≡ bodyLength kind ⌝ }
+{
+    let k = kind as usize;
+    if k < 16 {
+        return ((LOW_LENGTHS >> (4 * k)) % 16) as usize;
+    }
+    if k < 32 {
+        return ((HIGH_LENGTHS >> (4 * (k - 16))) % 16) as usize;
+    }
+    0
 }

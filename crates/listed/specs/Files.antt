@@ -60,15 +60,15 @@ files =
     ∷ returningLogger
     ∷ []
 
--- "The eight lines .., each of verdict and count"
+-- "The eight lines .., each of verdict and count"; leaks has the label, the guest's label and the count
 unfoldable pub lines : List Outcome
 lines =
     confined 45
-    ∷ leaks 3 45
+    ∷ leaks 3 3 45
     ∷ confined 48
     ∷ confined 49
-    ∷ leaks 5 148
-    ∷ leaks 5 84
+    ∷ leaks 5 3 148
+    ∷ leaks 5 3 84
     ∷ confined 152
-    ∷ leaks 5 316
+    ∷ leaks 5 3 316
     ∷ []

@@ -22,7 +22,7 @@ empty-line : verdictOf emptyFile ≡ confined 45
 unfolding verdictOf emptyFile
 empty-line = refl
 
-guest-forbidden-line : verdictOf guestForbidden ≡ leaks 3 45
+guest-forbidden-line : verdictOf guestForbidden ≡ leaks 3 3 45
 unfolding verdictOf guestForbidden
 guest-forbidden-line = refl
 
@@ -34,11 +34,11 @@ named-journal-line : verdictOf namedJournal ≡ confined 49
 unfolding verdictOf namedJournal
 named-journal-line = refl
 
-granted-journal-line : verdictOf grantedJournal ≡ leaks 5 148
+granted-journal-line : verdictOf grantedJournal ≡ leaks 5 3 148
 unfolding verdictOf grantedJournal
 granted-journal-line = refl
 
-built-in-journal-line : verdictOf builtInJournal ≡ leaks 5 84
+built-in-journal-line : verdictOf builtInJournal ≡ leaks 5 3 84
 unfolding verdictOf builtInJournal
 built-in-journal-line = refl
 
@@ -46,7 +46,7 @@ granted-logger-line : verdictOf grantedLogger ≡ confined 152
 unfolding verdictOf grantedLogger
 granted-logger-line = refl
 
-returning-logger-line : verdictOf returningLogger ≡ leaks 5 316
+returning-logger-line : verdictOf returningLogger ≡ leaks 5 3 316
 unfolding verdictOf returningLogger
 returning-logger-line = refl
 

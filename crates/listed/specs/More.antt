@@ -5,31 +5,31 @@ use Rattle.answer.specs.Outcome.{confined, leaks}
 use Rattle.listed.specs.Listed.{verdictOf}
 use Rattle.listed.specs.MoreFiles.{primitiveLoad, throwingLogger, returnedToHost, thrownToHost, convertedJournal, constructedJournal, storedByClass, storedElsewhere, arrayPrototype, builtInStore, moreFiles, moreLines}
 
-primitive-load-line : verdictOf primitiveLoad ≡ leaks 5 151
+primitive-load-line : verdictOf primitiveLoad ≡ leaks 5 3 151
 unfolding verdictOf primitiveLoad
 primitive-load-line = refl
 
-throwing-logger-line : verdictOf throwingLogger ≡ leaks 5 317
+throwing-logger-line : verdictOf throwingLogger ≡ leaks 5 3 317
 unfolding verdictOf throwingLogger
 throwing-logger-line = refl
 
-returned-to-host-line : verdictOf returnedToHost ≡ leaks 5 153
+returned-to-host-line : verdictOf returnedToHost ≡ leaks 5 3 153
 unfolding verdictOf returnedToHost
 returned-to-host-line = refl
 
-thrown-to-host-line : verdictOf thrownToHost ≡ leaks 5 155
+thrown-to-host-line : verdictOf thrownToHost ≡ leaks 5 3 155
 unfolding verdictOf thrownToHost
 thrown-to-host-line = refl
 
-converted-journal-line : verdictOf convertedJournal ≡ leaks 5 319
+converted-journal-line : verdictOf convertedJournal ≡ leaks 5 3 319
 unfolding verdictOf convertedJournal
 converted-journal-line = refl
 
-constructed-journal-line : verdictOf constructedJournal ≡ leaks 5 161
+constructed-journal-line : verdictOf constructedJournal ≡ leaks 5 3 161
 unfolding verdictOf constructedJournal
 constructed-journal-line = refl
 
-stored-by-class-line : verdictOf storedByClass ≡ leaks 5 153
+stored-by-class-line : verdictOf storedByClass ≡ leaks 5 3 153
 unfolding verdictOf storedByClass
 stored-by-class-line = refl
 
@@ -37,7 +37,7 @@ stored-elsewhere-line : verdictOf storedElsewhere ≡ confined 52
 unfolding verdictOf storedElsewhere
 stored-elsewhere-line = refl
 
-array-prototype-line : verdictOf arrayPrototype ≡ leaks 5 156
+array-prototype-line : verdictOf arrayPrototype ≡ leaks 5 3 156
 unfolding verdictOf arrayPrototype
 array-prototype-line = refl
 

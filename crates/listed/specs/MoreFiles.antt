@@ -62,14 +62,14 @@ moreFiles =
 
 unfoldable pub moreLines : List Outcome
 moreLines =
-    leaks 5 151
-    ∷ leaks 5 317
-    ∷ leaks 5 153
-    ∷ leaks 5 155
-    ∷ leaks 5 319
-    ∷ leaks 5 161
-    ∷ leaks 5 153
+    leaks 5 3 151
+    ∷ leaks 5 3 317
+    ∷ leaks 5 3 153
+    ∷ leaks 5 3 155
+    ∷ leaks 5 3 319
+    ∷ leaks 5 3 161
+    ∷ leaks 5 3 153
     ∷ confined 52
-    ∷ leaks 5 156
+    ∷ leaks 5 3 156
     ∷ confined 56
     ∷ []

@@ -3,7 +3,6 @@ use mathlib.Core.Path.{_≡_, refl, ap, _∙_}
 use mathlib.Core.List.{List, _++_}
 use Prim.Native.Nat.{ℕ, _≤_, _<_}
 use native.Mathlib.Omega.{arith}
-use native.Mathlib.Decide.{decLt}
 use lib.ListN.{length, drop, List·getD-append}
 use lib.Bits.{bitAnd}
 use lib.Count.{trailingZeros}
@@ -13,25 +12,17 @@ use Rattle.rules.specs.Gap.{gap}
 use Rattle.rules.proofs.Beyond.{facts-append}
 use Rattle.analysis.specs.Rules.{rules}
 use Rattle.format.specs.Reading.{readFile, Readable}
-use Rattle.format.proofs.File.{file-position-within}
-use Rattle.reader.proofs.Whole.{too-long}
 use Rattle.program.specs.Program.{programOf}
 use Rattle.analysis.specs.Verdict.{leastTable, heldForbidden}
 use Rattle.analysis.proofs.Proper.{readable-proper}
 use Rattle.analysis.proofs.Least.{table-length}
-use Rattle.answer.specs.Outcome.{refused, accepted}
+use Rattle.answer.specs.Outcome.{accepted, refused, holds}
 use Rattle.verdicts.specs.Verdict.{verdictOutcome, verdictTable, judged, forbiddenHeld, programIn}
 use Rattle.verdicts.specs.Check.{cleaned, checked, checkOutcome}
 use Rattle.verdicts.proofs.Accept.{admitted-readable}
 use Rattle.verdicts.proofs.Demand.{verdict-judged, table-left}
 use Rattle.views.specs.Arrays.{guestOf}
 use Rattle.pezvoran.specs.Judgment.{judgment}
-
--- a position is at most the longest file
-pub position-small : (xs : List ℕ) → readFile 64 xs .position ≤ 32768
-position-small xs =
-    elim (decLt 32768 (length xs))
-    [ yes long ↦ rw (too-long xs long) (omega arith) | no short ↦ omega (arith, file-position-within 64 xs) ]
 
 module _ (xs : List ℕ) (t : Table) where
   pub short-outcome : length t < 2432 → verdictOutcome 64 (length t) xs ≡ refused 8 0
@@ -112,6 +103,6 @@ module _ (xs : List ℕ) (t : Table) where
         check-clear e = check-read ∙ rw (le-ltb _ _ none, eq-eqb _ _ e)
 
         pub check-held : (heldForbidden t (guestOf (readFile 64 xs .sheet .forbidden)) ≡ 0 → ⊥)
-            → checkOutcome 64 xs t ≡ refused 11 (trailingZeros 64 (heldForbidden t (guestOf (readFile 64 xs .sheet .forbidden))))
+            → checkOutcome 64 xs t ≡ holds (trailingZeros 64 (heldForbidden t (guestOf (readFile 64 xs .sheet .forbidden)))) 3
         unfolding checked programOf forbiddenHeld
         check-held e = check-read ∙ rw (le-ltb _ _ none, ne-eqb _ _ e)

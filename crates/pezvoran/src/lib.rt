@@ -5,10 +5,13 @@ ghost use mathlib.Core.Path.{_≡_};
 ghost use lib.ListN.{length};
 ghost use lib.Count.{trailingZeros};
 ghost use Rattle.answer.specs.Outcome.{packed};
-ghost use Rattle.answer.specs.Answer.{outcomeOf, Placed};
+ghost use Rattle.answer.specs.Answer.{outcomeOf};
 ghost use Rattle.verdicts.specs.Verdict.{verdictOutcome, verdictTable};
 ghost use Rattle.verdicts.specs.Check.{checkOutcome};
 ghost use Rattle.pezvoran.specs.Judgment.{judgment};
+
+// The label of the guest: an answer names it beside a label that the guest holds.
+const GUEST: u8 = 3;
 
 // The lowest label of a set, 64 where it is empty.
 fn lowest_label(w: u64) -> u8
@@ -20,18 +23,16 @@ fn lowest_label(w: u64) -> u8
 // What the forbidden labels in the guest's bag and the number of facts amount to.
 fn judged(held: u64, count: u32) -> Answer
     ensures { λ r. ⌜ outcomeOf r ≡ judgment held count ⌝ }
-    ensures { λ r. ⌜ Placed r ⌝ }
 {
     if held == 0 {
         return Answer::Confined(count);
     }
-    Answer::Leaks(lowest_label(held), count)
+    Answer::Leaks(lowest_label(held), GUEST, count)
 }
 
 // The verdict on a file; the least table is left in the lent one.
 pub fn judge(file: &[u8], table: &mut [u64]) -> Answer
     ensures { λ r. ⌜ outcomeOf r ≡ verdictOutcome 64 (length (now (table .entry))) (now (file .entry)) ⌝ }
-    ensures { λ r. ⌜ Placed r ⌝ }
     ensures { λ _. ⌜ now (table .exit) ≡ verdictTable 64 (now (file .entry)) (now (table .entry)) ⌝ }
 {
     if table.len() < 2432 {
@@ -61,7 +62,6 @@ pub extern "C" fn verdict(file: &[u8], table: &mut [u64]) -> u64
 // The check of a finished table, which is only read.
 pub fn examine(file: &[u8], table: &[u64]) -> Answer
     ensures { λ r. ⌜ outcomeOf r ≡ checkOutcome 64 (now (file .entry)) (now (table .entry)) ⌝ }
-    ensures { λ r. ⌜ Placed r ⌝ }
 {
     if table.len() < 2432 {
         return Answer::Refused(8, 0);
@@ -79,9 +79,9 @@ pub fn examine(file: &[u8], table: &[u64]) -> Answer
     }
     let held = solver::table::held(table, sheet.forbidden);
     if held == 0 {
-        return Answer::Accepted;
+        return Answer::Accepted(0);
     }
-    Answer::Refused(11, fields::wide(lowest_label(held)))
+    Answer::Holds(lowest_label(held), GUEST)
 }
 
 // The check, for C.

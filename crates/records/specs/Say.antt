@@ -3,17 +3,21 @@ use mathlib.Core.List.{List, [], _∷_, map}
 use Prim.Native.Nat.{ℕ, zero, suc, _<_}
 use Rattle.rows.specs.Row.{Key}
 use Rattle.rules.specs.Rule.{Rule, every}
+use Rattle.format.specs.Records.{Record}
 use Rattle.program.specs.Statement as say
 use Rattle.program.specs.Program.{Program}
 use Rattle.analysis.specs.Rules.{ruleOf}
 use Rattle.records.specs.declared.Inputs.{Inputs}
 use Rattle.records.specs.declared.Site.{Site}
 use Rattle.records.specs.declared.Statement.{Statement}
-use Rattle.records.specs.declared.Statement.the-variants.{Nothing, Named, Grant, Property, Held, Copy, Load, Store, Make, MakeFunction, Call, New, Throw, Catch, Convert}
+use Rattle.records.specs.declared.Statement.the-variants.{Nothing, Named, Grant, Property, Held, Copy, Load, Store, Make, MakeFunction, Call, New, Return, Throw, Catch, Convert}
 
--- the rules of a record, as one rule
+-- the rules of a record, and of a record of kind k and body b as one rule
+abbrev pub saying : Program → Record → List Rule
+saying p r = map (ruleOf p) (say.statementsOf r)
+
 abbrev pub recordRule : Program → ℕ → List ℕ → Rule
-recordRule p k b = every (map (ruleOf p) (say.statementsOf (record { kind = k; body = b })))
+recordRule p k b = every (saying p (record { kind = k; body = b }))
 
 -- the six arguments
 abbrev pub arguments : Inputs → List ℕ
@@ -29,7 +33,7 @@ inputAt i (suc (suc (suc (suc zero)))) = i .fourth .0
 inputAt i (suc (suc (suc (suc (suc zero))))) = i .fifth .0
 inputAt i (suc (suc (suc (suc (suc (suc j)))))) = i .sixth .0
 
--- the statement; scopes that no rule reads are left out
+-- the statement; what no rule reads is left out
 abbrev pub spoken : Statement → List say.Statement
 spoken Nothing = []
 spoken (Named v n) = say.named (v .0) (n .0) ∷ []
@@ -43,6 +47,7 @@ spoken (Make y l) = say.make 0 (y .0) (l .0) ∷ []
 spoken (MakeFunction y l q) = say.makeFunction 0 (y .0) (l .0) (q .0) ∷ []
 spoken (Call s) = say.call (s .scope .0) (s .result .0) (s .callee .0) (s .inputs .this .0) (arguments (s .inputs)) ∷ []
 spoken (New s l) = say.new (s .scope .0) (s .result .0) (s .callee .0) (s .inputs .this .0) (l .0) (arguments (s .inputs)) ∷ []
+spoken Return = say.return 0 0 ∷ []
 spoken (Throw k x) = say.throw (k .0) (x .0) ∷ []
 spoken (Catch k y) = say.catch (k .0) (y .0) ∷ []
 spoken (Convert k x) = say.prim (k .0) (x .0) ∷ []
@@ -65,6 +70,7 @@ InBounds L (Make y l) = l .0 < L
 InBounds L (MakeFunction y l q) = (l .0 < L) × (q .0 < L)
 InBounds L (Call s) = s .scope .0 < L
 InBounds L (New s l) = (s .scope .0 < L) × (l .0 < L)
+InBounds L Return = Unit {0}
 InBounds L (Throw k x) = k .0 < L
 InBounds L (Catch k y) = k .0 < L
 InBounds L (Convert k x) = k .0 < L

@@ -1,13 +1,14 @@
 // The records of a readable file: where the next one begins, and what each says, with its bytes as variables, labels and names.
 ghost use mathlib.Core.Path.{_≡_};
 ghost use Prim.Native.Nat.{ℕ, _+_, _<_, _≤_};
-ghost use lib.ListN.{length, getD, drop};
+ghost use lib.ListN.{length, getD};
 ghost use Rattle.rows.specs.Edition.{labels};
 ghost use Rattle.layout.specs.Layout.{bodyLength};
 ghost use Rattle.program.specs.Program.{Program};
 ghost use Rattle.records.specs.Range.{InRange};
 ghost use Rattle.records.specs.Walk.{Walk, bodyAt};
-ghost use Rattle.records.specs.Say.{recordRule, arguments, inputAt, ruleBy, InBounds};
+ghost use Rattle.records.specs.Say.{recordRule, inputAt, ruleBy, InBounds};
+ghost use Rattle.records.specs.Parts.{namedIn, grantIn, propertyIn, heldIn, copyIn, loadIn, storeIn, makeIn, makeFunctionIn, siteIn, callIn, newIn, throwIn, catchIn, convertIn};
 use rows::Label;
 use rows::Name;
 use rows::Var;
@@ -56,6 +57,8 @@ pub enum Statement {
     Call(Site),
     // 22: with t as this, and l
     New(Site, Label),
+    // 23: its facts are the calls'
+    Return,
     // 24: k, value
     Throw(Label, Var),
     // 25: k, y
@@ -64,43 +67,129 @@ pub enum Statement {
     Convert(Label, Var),
 }
 
-// Byte j of a body, 0 where there is none.
-fn field(body: &[u8], j: usize) -> u8
-    ensures { λ r. ⌜ r ≡ getD (now (body .entry)) j 0 ⌝ }
-{
-    if j < body.len() { body[j] } else { 0 }
-}
+// ---- one function for each kind
 
-// 5: S(v) = H(0,n) where the variable has a name.
-fn named(body: &[u8]) -> Statement {
-    let name = field(body, 2);
+fn named(body: &[u8]) -> Statement
+    requires { ⌜ length (now body) ≡ 3 ⌝ }
+    ensures { λ r. ⌜ r ≡ namedIn (now (body .entry)) ⌝ }
+{
+    let name = body[2];
     if name == 255 {
         return Statement::Nothing;
     }
-    Statement::Named(Var(field(body, 0)), Name(name))
+    Statement::Named(Var(body[0]), Name(name))
+}
+
+fn grant(body: &[u8]) -> Statement
+    requires { ⌜ length (now body) ≡ 1 ⌝ }
+    ensures { λ r. ⌜ r ≡ grantIn (now (body .entry)) ⌝ }
+{
+    Statement::Grant(Var(body[0]))
+}
+
+fn property(body: &[u8]) -> Statement
+    requires { ⌜ length (now body) ≡ 3 ⌝ }
+    ensures { λ r. ⌜ r ≡ propertyIn (now (body .entry)) ⌝ }
+{
+    Statement::Property(Label(body[0]), Name(body[1]), Label(body[2]))
+}
+
+fn held(body: &[u8]) -> Statement
+    requires { ⌜ length (now body) ≡ 2 ⌝ }
+    ensures { λ r. ⌜ r ≡ heldIn (now (body .entry)) ⌝ }
+{
+    Statement::Held(Var(body[0]), Label(body[1]))
+}
+
+fn copy(body: &[u8]) -> Statement
+    requires { ⌜ length (now body) ≡ 3 ⌝ }
+    ensures { λ r. ⌜ r ≡ copyIn (now (body .entry)) ⌝ }
+{
+    Statement::Copy(Var(body[1]), Var(body[2]))
+}
+
+fn load(body: &[u8]) -> Statement
+    requires { ⌜ length (now body) ≡ 5 ⌝ }
+    ensures { λ r. ⌜ r ≡ loadIn (now (body .entry)) ⌝ }
+{
+    Statement::Load(Var(body[1]), Var(body[2]), body[3], Label(body[4]))
+}
+
+fn store(body: &[u8]) -> Statement
+    requires { ⌜ length (now body) ≡ 4 ⌝ }
+    ensures { λ r. ⌜ r ≡ storeIn (now (body .entry)) ⌝ }
+{
+    Statement::Store(Var(body[1]), body[2], Var(body[3]))
+}
+
+fn make(body: &[u8]) -> Statement
+    requires { ⌜ length (now body) ≡ 3 ⌝ }
+    ensures { λ r. ⌜ r ≡ makeIn (now (body .entry)) ⌝ }
+{
+    Statement::Make(Var(body[1]), Label(body[2]))
+}
+
+fn make_function(body: &[u8]) -> Statement
+    requires { ⌜ length (now body) ≡ 4 ⌝ }
+    ensures { λ r. ⌜ r ≡ makeFunctionIn (now (body .entry)) ⌝ }
+{
+    Statement::MakeFunction(Var(body[1]), Label(body[2]), Label(body[3]))
 }
 
 // The call of a body whose arguments begin at byte `first`.
 fn call_site(body: &[u8], first: usize) -> Site
-    requires { ⌜ first < 256 ⌝ }
-    ensures { λ r. ⌜ (r .scope .0 ≡ getD (now (body .entry)) 0 0) × (r .result .0 ≡ getD (now (body .entry)) 1 0) × (r .callee .0 ≡ getD (now (body .entry)) 2 0) × (r .inputs .this .0 ≡ getD (now (body .entry)) 3 0) ⌝ }
-    ensures { λ r. ⌜ (length (now (body .entry)) ≡ first + 6 → drop first (now (body .entry)) ≡ arguments (r .inputs)) ⌝ }
+    requires { ⌜ (4 ≤ first) × (length (now body) ≡ first + 6) ⌝ }
+    ensures { λ r. ⌜ r ≡ siteIn (now (body .entry)) first ⌝ }
 {
-    let inputs = Inputs {
-        this: Var(field(body, 3)),
-        first: Var(field(body, first)),
-        second: Var(field(body, first + 1)),
-        third: Var(field(body, first + 2)),
-        fourth: Var(field(body, first + 3)),
-        fifth: Var(field(body, first + 4)),
-        sixth: Var(field(body, first + 5)),
-    };
     Site {
-        scope: Label(field(body, 0)),
-        result: Var(field(body, 1)),
-        callee: Var(field(body, 2)),
-        inputs,
+        scope: Label(body[0]),
+        result: Var(body[1]),
+        callee: Var(body[2]),
+        inputs: Inputs {
+            this: Var(body[3]),
+            first: Var(body[first]),
+            second: Var(body[first + 1]),
+            third: Var(body[first + 2]),
+            fourth: Var(body[first + 3]),
+            fifth: Var(body[first + 4]),
+            sixth: Var(body[first + 5]),
+        },
     }
+}
+
+fn call(body: &[u8]) -> Statement
+    requires { ⌜ length (now body) ≡ 10 ⌝ }
+    ensures { λ r. ⌜ r ≡ callIn (now (body .entry)) ⌝ }
+{
+    Statement::Call(call_site(body, 4))
+}
+
+fn new(body: &[u8]) -> Statement
+    requires { ⌜ length (now body) ≡ 11 ⌝ }
+    ensures { λ r. ⌜ r ≡ newIn (now (body .entry)) ⌝ }
+{
+    Statement::New(call_site(body, 5), Label(body[4]))
+}
+
+fn throw(body: &[u8]) -> Statement
+    requires { ⌜ length (now body) ≡ 2 ⌝ }
+    ensures { λ r. ⌜ r ≡ throwIn (now (body .entry)) ⌝ }
+{
+    Statement::Throw(Label(body[0]), Var(body[1]))
+}
+
+fn catch(body: &[u8]) -> Statement
+    requires { ⌜ length (now body) ≡ 2 ⌝ }
+    ensures { λ r. ⌜ r ≡ catchIn (now (body .entry)) ⌝ }
+{
+    Statement::Catch(Label(body[0]), Var(body[1]))
+}
+
+fn convert(body: &[u8]) -> Statement
+    requires { ⌜ length (now body) ≡ 2 ⌝ }
+    ensures { λ r. ⌜ r ≡ convertIn (now (body .entry)) ⌝ }
+{
+    Statement::Convert(Label(body[0]), Var(body[1]))
 }
 
 // What the record of this kind and body says.
@@ -111,32 +200,20 @@ pub fn statement_of(wide: bool, kind: u8, body: &[u8]) -> Statement
 {
     match kind {
         5 => named(body),
-        6 => Statement::Grant(Var(field(body, 0))),
-        7 => Statement::Property(
-            Label(field(body, 0)),
-            Name(field(body, 1)),
-            Label(field(body, 2)),
-        ),
-        8 => Statement::Held(Var(field(body, 0)), Label(field(body, 1))),
-        16 => Statement::Copy(Var(field(body, 1)), Var(field(body, 2))),
-        17 => Statement::Load(
-            Var(field(body, 1)),
-            Var(field(body, 2)),
-            field(body, 3),
-            Label(field(body, 4)),
-        ),
-        18 => Statement::Store(Var(field(body, 1)), field(body, 2), Var(field(body, 3))),
-        19 => Statement::Make(Var(field(body, 1)), Label(field(body, 2))),
-        20 => Statement::MakeFunction(
-            Var(field(body, 1)),
-            Label(field(body, 2)),
-            Label(field(body, 3)),
-        ),
-        21 => Statement::Call(call_site(body, 4)),
-        22 => Statement::New(call_site(body, 5), Label(field(body, 4))),
-        24 => Statement::Throw(Label(field(body, 0)), Var(field(body, 1))),
-        25 => Statement::Catch(Label(field(body, 0)), Var(field(body, 1))),
-        26 => Statement::Convert(Label(field(body, 0)), Var(field(body, 1))),
+        6 => grant(body),
+        7 => property(body),
+        8 => held(body),
+        16 => copy(body),
+        17 => load(body),
+        18 => store(body),
+        19 => make(body),
+        20 => make_function(body),
+        21 => call(body),
+        22 => new(body),
+        23 => Statement::Return,
+        24 => throw(body),
+        25 => catch(body),
+        26 => convert(body),
         _ => Statement::Nothing,
     }
 }
@@ -163,8 +240,7 @@ pub fn after(wide: bool, file: &[u8], at: usize) -> usize
     requires { ⌜ Walk (labels wide) (now file) at × (at < length (now file)) × (length (now file) ≤ 32768) ⌝ }
     ensures { λ r. ⌜ r ≡ at + 1 + bodyLength (getD (now (file .entry)) at 0) ⌝ }
 {
-    let lengths = layout::lengths();
-    at + 1 + (lengths[file[at] as usize] as usize)
+    at + 1 + layout::body_length(file[at])
 }
 
 // What the record at `at` says.

@@ -32,26 +32,33 @@ fn print_guest(w: u64) -> bool {
     print_text(b"\nguest") && print_labels(w) && print_text(b"\n")
 }
 
+fn print_refusal(number: u8, position: u64) -> bool {
+    print_text(b"refused ")
+        && print_number(number as u64)
+        && print_text(b" ")
+        && print_number(position)
+        && print_text(b"\n")
+}
+
 // The answer, and for a verdict the labels in the guest's bag.
 pub fn print(a: Answer, bag: u64) -> bool {
     match a {
         Answer::Confined(count) => {
             print_text(b"confined ") && print_number(count as u64) && print_guest(bag)
         }
-        Answer::Leaks(label, count) => {
+        Answer::Leaks(label, _, count) => {
             print_text(b"leaks ")
                 && print_number(label as u64)
                 && print_text(b" ")
                 && print_number(count as u64)
                 && print_guest(bag)
         }
-        Answer::Refused(number, position) => {
-            print_text(b"refused ")
-                && print_number(number as u64)
-                && print_text(b" ")
-                && print_number(position as u64)
-                && print_text(b"\n")
-        }
-        Answer::Accepted => print_text(b"accepted\n"),
+        Answer::Accepted(_) => print_text(b"accepted\n"),
+        Answer::Refused(number, position) => print_refusal(number, position as u64),
+        Answer::Holds(label, _) => print_refusal(11, label as u64),
+        Answer::Choice(word) => print_text(b"choice ")
+            && print_number(word as u64)
+            && print_text(b"\n"),
+        Answer::NoneHelps => print_text(b"none helps\n"),
     }
 }

@@ -1,7 +1,7 @@
 // Rules that are one join, and unions over the labels of a set: a function reads the table at 0 and joins to the table at o of the same lent words.
 ghost use mathlib.Core.Path.{_≡_};
 ghost use Prim.Native.Nat.{_+_, _^_, _≤_, _<_};
-ghost use lib.ListN.{length};
+ghost use lib.ListN.{length, getD};
 ghost use Rattle.rows.specs.Edition.{labels};
 ghost use Rattle.rows.specs.Row.{rowCount};
 ghost use Rattle.sets.specs.Value.{value};
@@ -13,7 +13,16 @@ pub mod spread;
 
 use rows::Label;
 use rows::Name;
+use rows::Var;
 use sets::Set;
+
+// What variable v holds.
+pub fn held(t: &[u64], wide: bool, v: Var) -> Set
+    requires { ⌜ wordCount wide ≤ length (now t) ⌝ }
+    ensures { λ r. ⌜ value wide r ≡ getD (tableOf wide (now (t .entry))) (v .0) 0 ⌝ }
+{
+    lent::row(t, 0, wide, v.row())
+}
 
 // Label m, into row y.
 pub fn give(t: &mut [u64], o: usize, wide: bool, y: usize, m: Label) -> bool

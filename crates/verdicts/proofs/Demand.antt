@@ -109,7 +109,7 @@ module _ (L : ℕ) (xs : List ℕ) (five : 5 ≤ L) (ok : Readable L xs) where
 
   -- after leaks no list of numbers whatever is accepted
   pub leaks-none : (words : ℕ) → rowCount L ≤ words → Leaks (verdictOutcome L words xs) → (u : Table) → Accepts L xs u → ⊥
-  leaks-none words full k u a = leaks-held L (programIn L xs) (k .0, k .1, sym (verdict-judged words full) ∙ k .2) (accepted-clear u a)
+  leaks-none words full k u a = leaks-held L (programIn L xs) (k .0, k .1, k .2, sym (verdict-judged words full) ∙ k .3) (accepted-clear u a)
 
   -- "after confined the check accepts for it the lent table as the verdict left it"
   pub confined-accepts : (t : Table) → rowCount L ≤ length t → Confined (verdictOutcome L (length t) xs) → Accepts L xs (verdictTable L xs t)
@@ -131,4 +131,4 @@ module _ (L : ℕ) (xs : List ℕ) (five : 5 ≤ L) (ok : Readable L xs) where
       go : ((u : Table) → Accepts L xs u → ⊥) → Dec (forbiddenHeld (leastTable L (programIn L xs)) (programIn L xs .guests) ≡ 0)
           → Leaks (verdictOutcome L words xs)
       go n (yes e) = let a = least-itself e in absurd (n (a .0) (a .2))
-      go n (no d) = (_, _, verdict-judged words full ∙ held-leaks L (programIn L xs) d)
+      go n (no d) = (_, _, _, verdict-judged words full ∙ held-leaks L (programIn L xs) d)

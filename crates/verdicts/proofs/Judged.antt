@@ -1,5 +1,6 @@
 -- What is judged of a program: confined or leaks, and the label of leaks is the lowest forbidden one that row 1 holds. Assumes nothing.
-use mathlib.Core.Path.{_≡_, subst}
+use mathlib.Core.Path.{_≡_, refl, subst}
+use mathlib.Core.List.{List}
 use mathlib.Core.Logic.{_⊎_, inl, inr}
 use Prim.Native.Nat.{ℕ, _^_, _<_, _≤_}
 use native.Mathlib.Decide.{decLt, ℕ-discrete}
@@ -11,10 +12,10 @@ use Rattle.words.proofs.Laws.{Lowest, lowest}
 use Rattle.answer.specs.Outcome.{confined, leaks}
 use Rattle.rules.specs.Table.{Table, facts}
 use Rattle.format.specs.Sheet.{Sheet}
-use Rattle.program.specs.Program.{Program, Guest, guestsOf}
+use Rattle.program.specs.Program.{Program, Guest, guestsOf, programOf}
 use Rattle.analysis.specs.Verdict.{leastTable, heldForbidden}
 use Rattle.analysis.proofs.Held.{held-on, held-below}
-use Rattle.verdicts.specs.Verdict.{forbiddenHeld, judged, Leaks, Confined}
+use Rattle.verdicts.specs.Verdict.{forbiddenHeld, holder, judged, programIn, Leaks, Confined}
 use Rattle.verdicts.specs.Lists.{ForbiddenHeld, LowestForbidden}
 
 -- ---- the two outcomes of a program
@@ -25,7 +26,7 @@ module _ (L : ℕ) (p : Program) where
   clear-confined e = rw (eq-eqb (forbiddenHeld (leastTable L p) (p .guests)) 0 e)
 
   pub held-leaks : (forbiddenHeld (leastTable L p) (p .guests) ≡ 0 → ⊥)
-      → judged L p ≡ leaks (trailingZeros L (forbiddenHeld (leastTable L p) (p .guests))) (facts L (leastTable L p))
+      → judged L p ≡ leaks (trailingZeros L (forbiddenHeld (leastTable L p) (p .guests))) (holder (p .guests)) (facts L (leastTable L p))
   unfolding judged
   held-leaks d = rw (ne-eqb (forbiddenHeld (leastTable L p) (p .guests)) 0 d)
 
@@ -37,14 +38,19 @@ module _ (L : ℕ) (p : Program) where
       go (no d) = let a = held-leaks d in let b = c .1 in let z : _≡_ {A = ℕ} 0 1 = cc in absurd (omega arith)
 
   pub leaks-held : Leaks (judged L p) → forbiddenHeld (leastTable L p) (p .guests) ≡ 0 → ⊥
-  leaks-held k e = let a = clear-confined e in let b = k .2 in let z : _≡_ {A = ℕ} 0 1 = cc in omega arith
+  leaks-held k e = let a = clear-confined e in let b = k .3 in let z : _≡_ {A = ℕ} 0 1 = cc in omega arith
 
   pub judged-cases : Confined (judged L p) ⊎ Leaks (judged L p)
   judged-cases = go (ℕ-discrete (forbiddenHeld (leastTable L p) (p .guests)) 0)
     where
       go : Dec (forbiddenHeld (leastTable L p) (p .guests) ≡ 0) → Confined (judged L p) ⊎ Leaks (judged L p)
       go (yes e) = inl (_, clear-confined e)
-      go (no d) = inr (_, _, held-leaks d)
+      go (no d) = inr (_, _, _, held-leaks d)
+
+-- the one guest that there is
+pub guest-three : (L : ℕ) (xs : List ℕ) → holder (programIn L xs .guests) ≡ 3
+unfolding programOf
+guest-three L xs = refl
 
 -- ---- the lowest forbidden label in row 1
 

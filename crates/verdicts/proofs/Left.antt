@@ -18,9 +18,9 @@ use Rattle.program.specs.Program.{programOf}
 use Rattle.analysis.specs.Verdict.{leastTable}
 use Rattle.analysis.proofs.Proper.{readable-proper}
 use Rattle.analysis.proofs.Least.{table-length}
-use Rattle.verdicts.specs.Verdict.{forbiddenHeld, judged, programIn, verdictOutcome, verdictTable}
+use Rattle.verdicts.specs.Verdict.{forbiddenHeld, holder, judged, programIn, verdictOutcome, verdictTable}
 use Rattle.verdicts.specs.Lists.{LowestForbidden}
-use Rattle.verdicts.proofs.Judged.{clear-confined, held-leaks, lowest-forbidden}
+use Rattle.verdicts.proofs.Judged.{clear-confined, held-leaks, guest-three, lowest-forbidden}
 use Rattle.verdicts.proofs.Lists.{verdict-refuses, listed-refused, not-refused}
 use Rattle.verdicts.proofs.Demand.{verdict-judged, table-left}
 
@@ -54,28 +54,32 @@ module _ (L : ℕ) (xs : List ℕ) (five : 5 ≤ L) (ok : Readable L xs) (t : Ta
 lowest-row : (s : Sheet) (t u : Table) (l : ℕ) → getD t 1 0 ≡ getD u 1 0 → LowestForbidden s t l → LowestForbidden s u l
 lowest-row s t u l e low = record { held = (rw (sym e) (low .held .0), low .held .1); least = λ m h. low .least m (rw e (h .0), h .1) }
 
--- "leaks with the lowest forbidden label held"
-pub lowest-label : (L : ℕ) → 5 ≤ L → (xs : List ℕ) (t : Table) (l c : ℕ) → verdictOutcome L (length t) xs ≡ leaks l c
-    → LowestForbidden (programIn L xs .sheet) (verdictTable L xs t) l
+-- "leaks with the lowest forbidden label held", and with the guest's label beside it
+pub lowest-label : (L : ℕ) → 5 ≤ L → (xs : List ℕ) (t : Table) (l g c : ℕ) → verdictOutcome L (length t) xs ≡ leaks l g c
+    → LowestForbidden (programIn L xs .sheet) (verdictTable L xs t) l × (g ≡ 3)
 unfolding programOf
-lowest-label L five xs t l c e = go (not-refused L five xs (length t) (λ n at q. no-refusal n at (sym e ∙ q)))
+lowest-label L five xs t l g c e = go (not-refused L five xs (length t) (λ n at q. no-refusal n at (sym e ∙ q)))
   where
-    no-refusal : (n at : ℕ) → leaks l c ≡ refused n at → ⊥
+    no-refusal : (n at : ℕ) → leaks l g c ≡ refused n at → ⊥
     no-refusal n at q = let z : _≡_ {A = ℕ} 0 1 = cc in omega arith
 
-    go : (rowCount L ≤ length t) × Readable L xs → LowestForbidden (readFile L xs .sheet) (verdictTable L xs t) l
+    go : (rowCount L ≤ length t) × Readable L xs → LowestForbidden (readFile L xs .sheet) (verdictTable L xs t) l × (g ≡ 3)
     go (full, ok) = by-word (ℕ-discrete (forbiddenHeld (leastTable L (programIn L xs)) (programIn L xs .guests)) 0)
       where
-        judges : judged L (programIn L xs) ≡ leaks l c
+        judges : judged L (programIn L xs) ≡ leaks l g c
         judges = sym (verdict-judged L xs five ok (length t) full) ∙ e
 
-        by-word : Dec (forbiddenHeld (leastTable L (programIn L xs)) (programIn L xs .guests) ≡ 0) → LowestForbidden (readFile L xs .sheet) (verdictTable L xs t) l
+        by-word : Dec (forbiddenHeld (leastTable L (programIn L xs)) (programIn L xs .guests) ≡ 0)
+            → LowestForbidden (readFile L xs .sheet) (verdictTable L xs t) l × (g ≡ 3)
         by-word (yes q) = let a = clear-confined L (programIn L xs) q in let b = judges in let z : _≡_ {A = ℕ} 0 1 = cc in absurd (omega arith)
         by-word (no d) =
             let a = held-leaks L (programIn L xs) d in
             let b = judges in
+            let holds-it : holder (programIn L xs .guests) ≡ g = cc in
             let same : trailingZeros L (forbiddenHeld (leastTable L (programIn L xs)) (programIn L xs .guests)) ≡ l = cc in
-            lowest-row (readFile L xs .sheet) (leastTable L (programIn L xs)) (verdictTable L xs t) l
-            (sym (row-left L xs five ok t full 1 (omega arith)))
-            (subst (LowestForbidden (readFile L xs .sheet) (leastTable L (programIn L xs))) same
-            (lowest-forbidden L (readFile L xs .sheet) (leastTable L (programIn L xs)) (readable-ready L xs five ok .made .forbidden .forbidden-below) d))
+            let low = lowest-forbidden L (readFile L xs .sheet) (leastTable L (programIn L xs)) (readable-ready L xs five ok .made .forbidden .forbidden-below) d in (
+              lowest-row (readFile L xs .sheet) (leastTable L (programIn L xs)) (verdictTable L xs t) l
+                  (sym (row-left L xs five ok t full 1 (omega arith)))
+                  (subst (LowestForbidden (readFile L xs .sheet) (leastTable L (programIn L xs))) same low),
+              sym holds-it ∙ guest-three L xs,
+            )

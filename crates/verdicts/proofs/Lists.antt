@@ -12,7 +12,7 @@ use lib.Dec.{eqb}
 use lib.Count.{trailingZeros}
 use borrow.Author.Tests.{eq-eqb, ne-eqb, le-ltb, lt-ltb}
 use Rattle.rows.specs.Row.{rowCount}
-use Rattle.answer.specs.Outcome.{Outcome, refused, accepted}
+use Rattle.answer.specs.Outcome.{Outcome, accepted, refused, holds}
 use Rattle.rules.specs.Table.{Table}
 use Rattle.rules.specs.Told.{Closed}
 use Rattle.rules.specs.Gap.{gap}
@@ -26,11 +26,11 @@ use Rattle.analysis.specs.Rules.{rules}
 use Rattle.analysis.proofs.Proper.{Proper, readable-proper}
 use Rattle.analysis.proofs.Naming.{told-in-rows}
 use Rattle.verdicts.specs.Verdict.{admitted, forbiddenHeld, judged, programIn, verdictOutcome, Leaks, Confined, Refused}
-use Rattle.verdicts.specs.Check.{cleaned, Lacks, checked, checkOutcome, Accepts}
-use Rattle.verdicts.specs.Lists.{VerdictRefuses, table-short, file-bad, NoneLacks, ForbiddenHeld, LowestForbidden, CheckRefuses, as-the-verdict, row-lacks, label-held, Acceptable}
+use Rattle.verdicts.specs.Check.{cleaned, Lacks, checked, checkOutcome, Accepts, Holds}
+use Rattle.verdicts.specs.Lists.{VerdictRefuses, table-short, file-bad, NoneLacks, ForbiddenHeld, LowestForbidden, CheckRefuses, as-the-verdict, row-lacks, CheckHolds, Acceptable}
 use Rattle.verdicts.proofs.Cleaned.{cleaned-small}
 use Rattle.verdicts.proofs.Accept.{admitted-readable, Admission, short, unread, taken, admission, gap-lacks, gap-first, no-gap, closed-gap}
-use Rattle.verdicts.proofs.Judged.{judged-cases, none-forbidden, forbidden-none, lowest-forbidden, lowest-only}
+use Rattle.verdicts.proofs.Judged.{judged-cases, guest-three, none-forbidden, forbidden-none, lowest-forbidden, lowest-only}
 
 -- ---- what both operations refuse
 
@@ -80,7 +80,7 @@ module _ (L : ℕ) (five : 5 ≤ L) (xs : List ℕ) (words : ℕ) where
     where
       go : Confined judgment ⊎ Leaks judgment → ⊥
       go (inl c) = let q = c .1 in let z : _≡_ {A = ℕ} 0 1 = cc in omega arith
-      go (inr k) = let q = k .2 in let z : _≡_ {A = ℕ} 0 1 = cc in omega arith
+      go (inr k) = let q = k .3 in let z : _≡_ {A = ℕ} 0 1 = cc in omega arith
 
   verdict-taken : Taken judgment (verdictOutcome L words xs)
   unfolding verdictOutcome judgment
@@ -100,7 +100,7 @@ module _ (L : ℕ) (five : 5 ≤ L) (xs : List ℕ) (words : ℕ) where
     where
       by-case : {o : Outcome} → o ≡ judgment → Confined judgment ⊎ Leaks judgment → Confined o ⊎ (Leaks o ⊎ Refused 9 o)
       by-case e (inl c) = inl (c .0, e ∙ c .1)
-      by-case e (inr k) = inr (inl (k .0, k .1, e ∙ k .2))
+      by-case e (inr k) = inr (inl (k .0, k .1, k .2, e ∙ k .3))
 
       go : {o : Outcome} → Taken judgment o → Confined o ⊎ (Leaks o ⊎ Refused 9 o)
       go (inl r) = let d = listed-number (r .0) (r .1) (r .2) in inr (inr (r .0, r .1, d .0, d .1, r .3))
@@ -151,9 +151,9 @@ module _ (L : ℕ) (five : 5 ≤ L) (xs : List ℕ) (t : Table) where
   unfolding checked row
   says-ten h = rw (lt-ltb row (rowCount L) h)
 
-  says-eleven : rowCount L ≤ row → (held ≡ 0 → ⊥) → checked L (programIn L xs) t ≡ refused 11 (trailingZeros L held)
+  says-eleven : rowCount L ≤ row → (held ≡ 0 → ⊥) → checked L (programIn L xs) t ≡ holds (trailingZeros L held) 3
   unfolding checked row held
-  says-eleven h d = rw (le-ltb row (rowCount L) h, ne-eqb held 0 d)
+  says-eleven h d = rw (le-ltb row (rowCount L) h, ne-eqb held 0 d, guest-three L xs)
 
   says-accepted : rowCount L ≤ row → held ≡ 0 → checked L (programIn L xs) t ≡ accepted 0
   unfolding checked row held
@@ -216,10 +216,13 @@ module _ (L : ℕ) (five : 5 ≤ L) (xs : List ℕ) (t : Table) where
       let high : at ≤ row = first row (row-lacking ok h) in
       let p : row ≡ at = omega arith in
       check-is full ok ∙ says-ten h ∙ rw (p, e)
-  check-said n at (label-held full ok none low e) =
-      let d : held ≡ 0 → ⊥ = λ z. label-none ok z at (low .held) in
-      let p : trailingZeros L held ≡ at = lowest-only (programIn L xs .sheet) t _ at (label-lowest ok d) low in
-      check-is full ok ∙ says-eleven (no-row ok none) d ∙ rw (p, e)
+
+  holding-said : (l g : ℕ) → CheckHolds L xs t l g → checkOutcome L xs t ≡ holds l g
+  holding-said l g h =
+      let ok = h .readable in
+      let d : held ≡ 0 → ⊥ = λ z. label-none ok z l (h .lowest .held) in
+      let p : trailingZeros L held ≡ l = lowest-only (programIn L xs .sheet) t _ l (label-lowest ok d) (h .lowest) in
+      check-is (h .full-size) ok ∙ says-eleven (no-row ok (h .none-lacks)) d ∙ rw (p, h .guest-three)
 
   -- "as it does exactly where its list in document 01 has no refusal"
   acceptable-accepted : Acceptable L xs t → Accepts L xs t
@@ -228,9 +231,12 @@ module _ (L : ℕ) (five : 5 ≤ L) (xs : List ℕ) (t : Table) where
 
   -- ---- and nothing else is
 
-  -- a listed refusal, or nothing in the list is against file and table
+  -- a listed refusal, 11 apart, or nothing in the list is against file and table
   abbrev Examined : Outcome → Type 0
-  Examined o = ((n at : ℕ) × CheckRefuses L xs t n at × (1 ≤ n) × (n ≤ 11) × (o ≡ refused n at)) ⊎ (Acceptable L xs t × (o ≡ accepted 0))
+  Examined o =
+      ((n at : ℕ) × CheckRefuses L xs t n at × (1 ≤ n) × (n ≤ 10) × (o ≡ refused n at))
+      ⊎ (((l g : ℕ) × CheckHolds L xs t l g × (o ≡ holds l g))
+      ⊎ (Acceptable L xs t × (o ≡ accepted 0)))
 
   examined : Examined (checkOutcome L xs t)
   unfolding checkOutcome
@@ -241,10 +247,15 @@ module _ (L : ℕ) (five : 5 ≤ L) (xs : List ℕ) (t : Table) where
           inl (10, row, row-lacks full ok (row-lacking ok h) (row-first ok) refl, omega arith, omega arith, e ∙ says-ten h)
       read full ok e (no h) (yes z) =
           let b : rowCount L ≤ row = omega arith in
-          inr (record { full-size = full; readable = ok; none-lacks = none-lacks ok b; none-held = label-none ok z }, e ∙ says-accepted b z)
+          inr (inr (record { full-size = full; readable = ok; none-lacks = none-lacks ok b; none-held = label-none ok z }, e ∙ says-accepted b z))
       read full ok e (no h) (no d) =
           let b : rowCount L ≤ row = omega arith in
-          inl (11, _, label-held full ok (none-lacks ok b) (label-lowest ok d) refl, omega arith, omega arith, e ∙ says-eleven b d)
+          inr (inl (
+            _,
+            3,
+            record { full-size = full; readable = ok; none-lacks = none-lacks ok b; lowest = label-lowest ok d; guest-three = refl },
+            e ∙ says-eleven b d,
+          ))
 
       go : {o : Outcome} → Taken L five xs (length t) (checked L (programIn L xs) t) o → Examined o
       go (inl r) = let d = listed-number L five xs (length t) (r .0) (r .1) (r .2) in inl (r .0, r .1, as-the-verdict (r .2), d .0, omega (arith, d .1), r .3)
@@ -259,22 +270,37 @@ module _ (L : ℕ) (five : 5 ≤ L) (xs : List ℕ) (t : Table) where
           let a : r .0 ≡ n = cc in
           let b : r .1 ≡ at = cc in
           subst (λ (x : ℕ). CheckRefuses L xs t x at) a (subst (CheckRefuses L xs t (r .0)) b (r .2))
-      forth (inr r) e = let q = r .1 in let z : _≡_ {A = ℕ} 0 1 = cc in absurd (omega arith)
+      forth (inr (inl r)) e = let q = r .3 in let z : _≡_ {A = ℕ} 0 1 = cc in absurd (omega arith)
+      forth (inr (inr r)) e = let q = r .1 in let z : _≡_ {A = ℕ} 0 1 = cc in absurd (omega arith)
+
+  pub check-holds : (l g : ℕ) → (checkOutcome L xs t ≡ holds l g) ↔ CheckHolds L xs t l g
+  check-holds l g = (forth examined, holding-said l g)
+    where
+      forth : {o : Outcome} → Examined o → o ≡ holds l g → CheckHolds L xs t l g
+      forth (inl r) e = let q = r .5 in let z : _≡_ {A = ℕ} 0 1 = cc in absurd (omega arith)
+      forth (inr (inl r)) e =
+          let q : holds (r .0) (r .1) ≡ holds l g = sym (r .3) ∙ e in
+          let a : r .0 ≡ l = cc in
+          let b : r .1 ≡ g = cc in
+          subst (λ (x : ℕ). CheckHolds L xs t x g) a (subst (CheckHolds L xs t (r .0)) b (r .2))
+      forth (inr (inr r)) e = let q = r .1 in let z : _≡_ {A = ℕ} 0 1 = cc in absurd (omega arith)
 
   pub check-accepts : Accepts L xs t ↔ Acceptable L xs t
   check-accepts = (forth examined, acceptable-accepted)
     where
       forth : {o : Outcome} → Examined o → o ≡ accepted 0 → Acceptable L xs t
       forth (inl r) e = let q = r .5 in let z : _≡_ {A = ℕ} 0 1 = cc in absurd (omega arith)
-      forth (inr r) e = r .0
+      forth (inr (inl r)) e = let q = r .3 in let z : _≡_ {A = ℕ} 0 1 = cc in absurd (omega arith)
+      forth (inr (inr r)) e = r .0
 
   -- "accepted or a refusal"
-  pub check-answers : Accepts L xs t ⊎ Refused 11 (checkOutcome L xs t)
+  pub check-answers : Accepts L xs t ⊎ (Refused 10 (checkOutcome L xs t) ⊎ Holds (checkOutcome L xs t))
   check-answers = go examined
     where
-      go : {o : Outcome} → Examined o → (o ≡ accepted 0) ⊎ Refused 11 o
-      go (inl r) = inr (r .0, r .1, r .3, r .4, r .5)
-      go (inr r) = inl (r .1)
+      go : {o : Outcome} → Examined o → (o ≡ accepted 0) ⊎ (Refused 10 o ⊎ Holds o)
+      go (inl r) = inr (inl (r .0, r .1, r .3, r .4, r .5))
+      go (inr (inl r)) = inr (inr (r .0, r .1, r .3))
+      go (inr (inr r)) = inl (r .1)
 
   -- ---- the same in the terms of the rules
 

@@ -9,7 +9,7 @@ use lib.Bits.{bitAnd}
 use lib.Count.{trailingZeros}
 use Rattle.words.specs.Words.{union}
 use Rattle.rows.specs.Row.{rowCount}
-use Rattle.answer.specs.Outcome.{Outcome, refused, accepted}
+use Rattle.answer.specs.Outcome.{Outcome, accepted, refused, holds}
 use Rattle.rules.specs.Table.{Table, Has}
 use Rattle.rules.specs.Told.{Told}
 use Rattle.rules.specs.Gap.{gap}
@@ -17,7 +17,7 @@ use Rattle.format.specs.Sheet.{Sheet, declared}
 use Rattle.format.specs.Reading.{readFile}
 use Rattle.program.specs.Program.{Program, programOf}
 use Rattle.analysis.specs.Rules.{rules}
-use Rattle.verdicts.specs.Verdict.{admitted, forbiddenHeld}
+use Rattle.verdicts.specs.Verdict.{admitted, forbiddenHeld, holder}
 
 -- the declared labels below L as a word
 unfoldable pub declaredWord : ℕ → Sheet → ℕ
@@ -47,13 +47,14 @@ pub record Counts (L : ℕ) (s : Sheet) (t : Table) (r l : ℕ) : Type 0 where
 abbrev pub Lacks : ℕ → Program → Table → ℕ → Type 0
 Lacks L p t r = (l : ℕ) × Told L (cleaned L (p .sheet) t) (rules L p) r l × (Has t r l → ⊥)
 
--- "then 10 with the lowest row that one use of all rules would enlarge, then 11 (position: lowest forbidden label in row 1)"
+-- "then 10 with the lowest row that one use of all rules would enlarge, then 11 (position: lowest forbidden label in row 1)"; Req 11: "the check's 11
+-- picks and names the same way"
 unfoldable pub checked : ℕ → Program → Table → Outcome
 unfolding rules gap cleaned forbiddenHeld trailingZeros
 checked L p t =
     let row = gap L (cleaned L (p .sheet) t) (rules L p) in
     let w = forbiddenHeld t (p .guests) in
-    cond (ltb row (rowCount L)) (refused 10 row) (cond (eqb w 0) (accepted 0) (refused 11 (trailingZeros L w)))
+    cond (ltb row (rowCount L)) (refused 10 row) (cond (eqb w 0) (accepted 0) (holds (trailingZeros L w) (holder (p .guests))))
 
 -- what the check says of a file and a table: "the same with the same numbers, then .."; "it only reads, and accepts otherwise"
 unfoldable pub checkOutcome : ℕ → List ℕ → Table → Outcome
@@ -66,3 +67,7 @@ checkOutcome L xs t =
 -- the check accepts the table for the file
 abbrev pub Accepts : ℕ → List ℕ → Table → Type 0
 Accepts L xs t = checkOutcome L xs t ≡ accepted 0
+
+-- the outcome is refusal 11
+abbrev pub Holds : Outcome → Type 0
+Holds o = (label guest : ℕ) × (o ≡ holds label guest)

@@ -32,14 +32,20 @@ pub record LowestForbidden (s : Sheet) (t : Table) (l : ℕ) : Type 0 where
   pub held : ForbiddenHeld s t l
   pub least : (m : ℕ) → ForbiddenHeld s t m → l ≤ m
 
--- the check refuses: "the same with the same numbers, then 10 with the lowest row that one use of all rules would enlarge, then 11 (position: lowest
--- forbidden label in row 1)"
+-- the check refuses the table with n at position `at`: "the same with the same numbers, then 10 with the lowest row that one use of all rules would
+-- enlarge,"
 pub data CheckRefuses (L : ℕ) (xs : List ℕ) (t : Table) (n at : ℕ) : Type 0 where
   as-the-verdict : VerdictRefuses L xs (length t) n at → CheckRefuses L xs t n at
   row-lacks : rowCount L ≤ length t → Readable L xs → Lacks L (programIn L xs) t at → ((r : ℕ) → Lacks L (programIn L xs) t r → at ≤ r) → n ≡ 10
       → CheckRefuses L xs t n at
-  label-held : rowCount L ≤ length t → Readable L xs → NoneLacks L xs t → LowestForbidden (programIn L xs .sheet) t at → n ≡ 11
-      → CheckRefuses L xs t n at
+
+-- "then 11 (position: lowest forbidden label in row 1)", and beside it the guest's label, which is 3
+pub record CheckHolds (L : ℕ) (xs : List ℕ) (t : Table) (label guest : ℕ) : Type 0 where
+  pub full-size : rowCount L ≤ length t
+  pub readable : Readable L xs
+  pub none-lacks : NoneLacks L xs t
+  pub lowest : LowestForbidden (programIn L xs .sheet) t label
+  pub guest-three : guest ≡ 3
 
 -- nothing in the check's list is against the file and the table
 pub record Acceptable (L : ℕ) (xs : List ℕ) (t : Table) : Type 0 where

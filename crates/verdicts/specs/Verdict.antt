@@ -25,14 +25,20 @@ unfolding heldForbidden
 forbiddenHeld t [] = 0
 forbiddenHeld t (g ∷ gs) = heldForbidden t g
 
--- "The verdict is leaks if S(1) holds a forbidden label", "with the lowest forbidden label held"; "the fact count is the number of these"
+-- the guest whose bag that is, by its label
+abbrev pub holder : List Guest → ℕ
+holder [] = 0
+holder (g ∷ gs) = g .label
+
+-- "The verdict is leaks if S(1) holds a forbidden label", "with the lowest forbidden label held"; "the fact count is the number of these"; Req 11:
+-- "with the guest's label beside the forbidden one"
 unfoldable pub judged : ℕ → Program → Outcome
 unfolding leastTable facts forbiddenHeld trailingZeros
 judged L p =
     let t = leastTable L p in
     let w = forbiddenHeld t (p .guests) in
     let count = facts L t in
-    cond (eqb w 0) (confined count) (leaks (trailingZeros L w) count)
+    cond (eqb w 0) (confined count) (leaks (trailingZeros L w) (holder (p .guests)) count)
 
 -- what the file says to the rules
 abbrev pub programIn : ℕ → List ℕ → Program
@@ -56,7 +62,7 @@ verdictTable L xs t =
 
 -- the outcome is leaks; it is confined; it is a refusal with a number from 1 to `most`
 abbrev pub Leaks : Outcome → Type 0
-Leaks o = (label count : ℕ) × (o ≡ leaks label count)
+Leaks o = (label guest count : ℕ) × (o ≡ leaks label guest count)
 
 abbrev pub Confined : Outcome → Type 0
 Confined o = (count : ℕ) × (o ≡ confined count)

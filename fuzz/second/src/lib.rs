@@ -7,9 +7,12 @@ use std::slice;
 
 const LEAKS: u64 = 1 << 4;
 const ACCEPTED: u64 = 2 << 4;
+/// The guest's label, beside the label of leaks and of refusal 11.
+const GUEST: u64 = 3 << 17;
 
 fn refused(refusal: Refusal) -> u64 {
-    u64::from(refusal.number) | (refusal.position as u64) << 4
+    let guest = if refusal.number == 11 { GUEST } else { 0 };
+    u64::from(refusal.number) | (refusal.position as u64) << 4 | guest
 }
 
 /// # Safety
@@ -24,7 +27,7 @@ pub unsafe extern "C" fn second_verdict(file: *const u8, file_length: usize, tab
             let count = u64::from(answer.facts) << 32;
             match answer.verdict {
                 Verdict::Confined => count,
-                Verdict::Leaks(label) => count | u64::from(label) << 8 | LEAKS,
+                Verdict::Leaks(label) => count | GUEST | u64::from(label) << 8 | LEAKS,
             }
         }
     }

@@ -6,15 +6,15 @@
 //! // Label 5, forbidden; variable 2 holds it; the guest is granted variable 2.
 //! let file = [2, 5, 1, 0, 3, 5, 5, 2, 0, 255, 8, 2, 5, 6, 2];
 //! let mut table = Table::new();
-//! assert_eq!(verdict(&file, &mut table), Answer::Leaks { label: 5, facts: 148 });
+//! assert_eq!(verdict(&file, &mut table), Answer::Leaks { label: 5, guest: 3, facts: 148 });
 //! assert!(table.guest().eq([3, 5]));
 //! // Without the grant the guest never comes to hold it, and the finished table shows it.
 //! assert_eq!(verdict(&file[..13], &mut table), Answer::Confined { facts: 48 });
-//! assert_eq!(check(&file[..13], &table), Answer::Accepted);
+//! assert_eq!(check(&file[..13], &table), Answer::Accepted { count: 0 });
 //! ```
 //!
 //! Both operations take any bytes and any table, empty ones too. They keep nothing from one call to the next and take no memory but the stack, so threads
-//! may call them at the same time, each with a table of its own. The stack that a call takes is the same for every file: 77,584 bytes for a verdict, 45,696
+//! may call them at the same time, each with a table of its own. The stack that a call takes is the same for every file: 77,608 bytes for a verdict, 45,720
 //! for a check, as measured. A thread with less dies; one with [`STACK_BYTES`] does not. (What C has to see to, alignment and that file and table do not
 //! overlap, is in the types here.) The archive that `rt staticlib pezvoran` writes is linked in.
 

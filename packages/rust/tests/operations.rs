@@ -1,4 +1,4 @@
-//! The safe interface: both operations on small files, words of answers, kept tables, and the texts of the C header.
+//! The safe interface: both operations on small files, kept tables, and the texts of the C header.
 
 use pezvoran::{check, verdict, Answer, Refusal, Table, FILE_BYTES, STACK_BYTES, TABLE_WORDS};
 use std::thread;
@@ -7,15 +7,21 @@ use std::thread;
 const LEAKING: [u8; 15] = [2, 5, 1, 0, 3, 5, 5, 2, 0, 255, 8, 2, 5, 6, 2];
 const CONFINED: [u8; 13] = [2, 5, 1, 0, 3, 5, 5, 2, 0, 255, 8, 2, 5];
 
+const ACCEPTED: Answer = Answer::Accepted { count: 0 };
+
+fn refusal(number: u8, position: u64) -> Refusal {
+    Refusal { number, position, guest: None }
+}
+
 fn refused(number: u8, position: u64) -> Answer {
-    Answer::Refused(Refusal { number, position })
+    Answer::Refused(refusal(number, position))
 }
 
 #[test]
 fn the_check_accepts_what_a_confined_verdict_left() {
     let mut table = Table::new();
     assert_eq!(verdict(&CONFINED, &mut table), Answer::Confined { facts: 48 });
-    assert_eq!(check(&CONFINED, &table), Answer::Accepted);
+    assert_eq!(check(&CONFINED, &table), ACCEPTED);
     table[1] = 0;
     assert_eq!(check(&CONFINED, &table), refused(10, 1));
 }
@@ -23,8 +29,8 @@ fn the_check_accepts_what_a_confined_verdict_left() {
 #[test]
 fn the_check_refuses_what_a_leaking_verdict_left() {
     let mut table = Table::new();
-    assert_eq!(verdict(&LEAKING, &mut table), Answer::Leaks { label: 5, facts: 148 });
-    assert_eq!(check(&LEAKING, &table), refused(11, 5));
+    assert_eq!(verdict(&LEAKING, &mut table), Answer::Leaks { label: 5, guest: 3, facts: 148 });
+    assert_eq!(check(&LEAKING, &table), Answer::Refused(Refusal { number: 11, position: 5, guest: Some(3) }));
 }
 
 #[test]
@@ -64,7 +70,7 @@ fn threads_with_the_stated_stack_call_at_the_same_time() {
     };
     let threads = [
         judging(&CONFINED, Answer::Confined { facts: 48 }),
-        judging(&LEAKING, Answer::Leaks { label: 5, facts: 148 }),
+        judging(&LEAKING, Answer::Leaks { label: 5, guest: 3, facts: 148 }),
         judging(&[], Answer::Confined { facts: 45 }),
     ];
     for thread in threads {
@@ -92,31 +98,18 @@ fn a_table_kept_as_bytes_is_the_same_table() {
 }
 
 #[test]
-fn a_word_is_read_as_the_answer_that_it_stands_for() {
-    let answers =
-        [Answer::Confined { facts: 45 }, Answer::Leaks { label: 63, facts: 100_000 }, Answer::Accepted, refused(1, 0), refused(11, (1 << 60) - 1)];
-    for answer in answers {
-        assert_eq!(Answer::of_word(answer.word()), Some(answer));
-    }
-    for no_answer in [12, 15, 1 << 8, 3 << 4, 16 | 1 << 17, 32 | 1 << 8, 32 | 1 << 40] {
-        assert_eq!(Answer::of_word(no_answer), None, "{no_answer:#x}");
-    }
-}
-
-#[test]
 fn answers_and_refusals_are_printed_in_words() {
-    assert_eq!(Answer::Leaks { label: 5, facts: 148 }.to_string(), "leaks 5 148");
+    assert_eq!(Answer::Leaks { label: 5, guest: 3, facts: 148 }.to_string(), "leaks 5 148");
     assert_eq!(refused(4, 12).to_string(), "refused 4 12");
-    let refusal = Refusal { number: 4, position: 12 };
-    assert_eq!(refusal.to_string(), "a label or scope of the record is not declared or not allowed there (record at byte 12)");
-    assert_eq!(Refusal { number: 9, position: 0 }.to_string(), "the file is longer than 32768 bytes");
+    assert_eq!(refusal(4, 12).to_string(), "a label or scope of the record is not declared or not allowed there (record at byte 12)");
+    assert_eq!(refusal(9, 0).to_string(), "the file is longer than 32768 bytes");
 }
 
 #[test]
 fn the_texts_are_those_of_the_c_header() {
     let header = include_str!("../../../include/pezvoran.h");
-    for number in 0..16 {
-        let text = Refusal { number, position: 0 }.text();
+    for number in 0..17 {
+        let text = refusal(number, 0).text();
         assert!(header.contains(&format!("return \"{text}\";")), "{text}");
     }
 }

@@ -56,8 +56,8 @@ fn the_archive_prints_what_each_example_states() {
         let guest: String = table.guest().map(|label| format!(" {label}")).collect();
         assert_eq!(format!("{answer}\nguest{guest}\n"), stated(&example), "{}", example.name);
         let expected = match answer {
-            Answer::Leaks { label, .. } => Answer::Refused(Refusal { number: 11, position: label.into() }),
-            _ => Answer::Accepted,
+            Answer::Leaks { label, guest, .. } => Answer::Refused(Refusal { number: 11, position: label.into(), guest: Some(guest) }),
+            _ => Answer::Accepted { count: 0 },
         };
         assert_eq!(check(&example.file, &table), expected, "{}", example.name);
     }

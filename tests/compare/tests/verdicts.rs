@@ -29,13 +29,13 @@ impl Tally {
                 }
                 Verdict::Leaks(label) => {
                     self.leaks += 1;
-                    Answer::Leaks { label, facts: a.facts }
+                    Answer::Leaks { label, guest: 3, facts: a.facts }
                 }
             },
             Err(r) => {
                 self.refused[r.number as usize] += 1;
                 assert!(theirs == before, "{name}: the second solver wrote at a refusal");
-                Answer::Refused(Refusal { number: r.number, position: r.position as u64 })
+                Answer::Refused(Refusal { number: r.number, position: r.position as u64, guest: None })
             }
         };
         assert_eq!(answer, expected, "{name}");

@@ -1,6 +1,8 @@
 -- `pezvoran::check` meets its contract. Assumes nothing.
-use mathlib.Core.Path.{ap, _∙_}
-use Rattle.answer.specs.Outcome.{packed}
+use mathlib.Core.Path.{sym, ap, subst, _∙_}
+use native.Mathlib.Omega.{arith}
+use Rattle.answer.specs.Outcome.{packed, Ranged}
+use Rattle.verdicts.proofs.Ranged.{check-ranged}
 use borrow.Author.Needs.{needs}
 use Rattle.pezvoran.proofs.check.Statement.{statement}
 use Rattle.pezvoran.proofs.check.Tie as tie
@@ -9,10 +11,10 @@ examine-requires : tie.Need-examine-requires
 examine-requires c κs = search needs
 
 pack-requires : tie.Need-pack-requires
-pack-requires c κs = search needs
+pack-requires c κs = subst Ranged (sym (c .examine .ensures)) (check-ranged 64 (omega arith) _ _)
 
 returns : tie.Need-returns
-returns c = c .pack .ensures ∙ ap packed (c .before .examine .ensures .0)
+returns c = c .pack .ensures ∙ ap packed (c .before .examine .ensures)
 
 pub check-spec : {M : Type 1} → statement M
 check-spec = tie.close (tie.spec examine-requires pack-requires returns)

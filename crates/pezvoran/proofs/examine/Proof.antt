@@ -1,13 +1,14 @@
 -- `pezvoran::examine` meets its contract. Assumes nothing.
 use mathlib.Core.Path.{_≡_, sym, ap, ap₂, _∙_}
+use Prim.Native.Nat.{ℕ}
 use native.Mathlib.Omega.{arith}
 use lib.Count.{trailingZeros}
 use Rattle.format.specs.Sheet.{Sheet}
 use Rattle.format.specs.Reading.{readFile}
 use Rattle.analysis.specs.Verdict.{heldForbidden}
-use Rattle.answer.specs.Outcome.{refused}
+use Rattle.answer.specs.Outcome.{refused, holds}
 use Rattle.views.specs.Arrays.{guestOf}
-use Rattle.pezvoran.proofs.Laws.{check-short, check-refused, check-gap, check-clear, check-held, position-small}
+use Rattle.pezvoran.proofs.Laws.{check-short, check-refused, check-gap, check-clear, check-held}
 use borrow.Author.Needs.{needs}
 use Rattle.pezvoran.proofs.examine.Statement.{statement}
 use Rattle.pezvoran.proofs.examine.Tie as tie
@@ -15,7 +16,7 @@ use Rattle.pezvoran.proofs.examine.Tie as tie
 returns : tie.Need-returns
 returns c =
     let a = c .before .before .before .args in
-    (sym (check-short (a .file .now) (a .table .now) (c .if1 .taken)), omega arith)
+    sym (check-short (a .file .now) (a .table .now) (c .if1 .taken))
 
 read-requires : tie.Need-read-requires
 read-requires c κs = search needs
@@ -28,7 +29,7 @@ returns-2 c =
     let r = c .before .read .ensures in
     let full = c .before .before .if1 .left in
     let z : readFile 64 xs .refusal ≡ 0 → ⊥ = (λ q. c .if2 .taken (r .1 .0 ∙ q)) in
-    (ap₂ refused (r .1 .0) (r .1 .1) ∙ sym (check-refused xs t full z), omega (arith, r .1 .1, position-small xs))
+    ap₂ refused (r .1 .0) (r .1 .1) ∙ sym (check-refused xs t full z)
 
 lowest-gap-requires : tie.Need-lowest-gap-requires
 lowest-gap-requires c κs = search needs
@@ -44,7 +45,7 @@ returns-3 c =
     let ok : readFile 64 xs .refusal ≡ 0 = sym (r .1 .0) ∙ e .if2 .left in
     let g = c .before .lowest-gap .ensures in
     let low = c .if3 .taken in
-    (ap (refused 10) g ∙ sym (check-gap xs t full ok (omega (arith, g))), omega arith)
+    ap (refused 10) g ∙ sym (check-gap xs t full ok (omega (arith, g)))
 
 held-requires : tie.Need-held-requires
 held-requires c κs = search needs
@@ -61,28 +62,25 @@ returns-4 c =
     let g = c .before .before .before .lowest-gap .ensures in
     let high = c .before .before .if3 .left in
     let held = c .before .held .ensures ∙ ap (λ (s : Sheet). heldForbidden t (guestOf (s .forbidden))) (r .0) in
-    (sym (check-clear xs t full ok (omega (arith, g)) (sym held ∙ c .if4 .taken)), tt)
+    sym (check-clear xs t full ok (omega (arith, g)) (sym held ∙ c .if4 .taken))
 
 lowest-label-requires : tie.Need-lowest-label-requires
 lowest-label-requires c κs = search needs
 
-wide-requires : tie.Need-wide-requires
-wide-requires c κs = search needs
-
 returns-5 : tie.Need-returns-5
 returns-5 c =
-    let e = c .before .before .before .before .before .before .before in
+    let e = c .before .before .before .before .before .before in
     let a = e .before .before .before .before .before .args in
     let xs = a .file .now in
     let t = a .table .now in
     let r = e .before .read .ensures in
     let full = e .before .before .if1 .left in
     let ok : readFile 64 xs .refusal ≡ 0 = sym (r .1 .0) ∙ e .if2 .left in
-    let g = c .before .before .before .before .before .lowest-gap .ensures in
-    let high = c .before .before .before .before .if3 .left in
-    let held = c .before .before .before .held .ensures ∙ ap (λ (s : Sheet). heldForbidden t (guestOf (s .forbidden))) (r .0) in
-    let label = c .wide .ensures .0 ∙ c .before .lowest-label .ensures ∙ ap (trailingZeros 64) held in
-    (ap (refused 11) label ∙ sym (check-held xs t full ok (omega (arith, g)) (λ z. c .before .before .if4 .left (held ∙ z))), omega (arith, c .wide .ensures .1))
+    let g = c .before .before .before .before .lowest-gap .ensures in
+    let high = c .before .before .before .if3 .left in
+    let held = c .before .before .held .ensures ∙ ap (λ (s : Sheet). heldForbidden t (guestOf (s .forbidden))) (r .0) in
+    let label = c .lowest-label .ensures ∙ ap (trailingZeros 64) held in
+    ap (λ (l : ℕ). holds l 3) label ∙ sym (check-held xs t full ok (omega (arith, g)) (λ z. c .before .if4 .left (held ∙ z)))
 
 pub examine-spec : {M : Type 1} → statement M
 examine-spec =
@@ -96,5 +94,4 @@ examine-spec =
     held-requires
     returns-4
     lowest-label-requires
-    wide-requires
     returns-5)

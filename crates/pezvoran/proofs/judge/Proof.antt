@@ -1,7 +1,6 @@
 -- `pezvoran::judge` meets its contract. Assumes nothing.
 use mathlib.Core.Path.{_≡_, sym, ap, ap₂, _∙_}
 use Prim.Native.Nat.{ℕ}
-use native.Mathlib.Omega.{arith}
 use Rattle.rules.specs.Table.{Table, facts}
 use Rattle.format.specs.Sheet.{Sheet}
 use Rattle.format.specs.Reading.{readFile}
@@ -9,7 +8,7 @@ use Rattle.analysis.specs.Verdict.{heldForbidden}
 use Rattle.answer.specs.Outcome.{refused}
 use Rattle.views.specs.Arrays.{guestOf}
 use Rattle.pezvoran.specs.Judgment.{judgment}
-use Rattle.pezvoran.proofs.Laws.{short-outcome, short-table, refused-outcome, refused-table, judged-outcome, left, position-small}
+use Rattle.pezvoran.proofs.Laws.{short-outcome, short-table, refused-outcome, refused-table, judged-outcome, left}
 use borrow.Author.Needs.{needs}
 use Rattle.pezvoran.proofs.judge.Statement.{statement}
 use Rattle.pezvoran.proofs.judge.Tie as tie
@@ -17,7 +16,7 @@ use Rattle.pezvoran.proofs.judge.Tie as tie
 returns : tie.Need-returns
 returns c =
     let a = c .before .before .before .args in
-    (sym (short-outcome (a .file .now) (a .table .now) (c .if1 .taken)), (omega arith, sym (short-table (a .file .now) (a .table .now) (c .if1 .taken))))
+    (sym (short-outcome (a .file .now) (a .table .now) (c .if1 .taken)), sym (short-table (a .file .now) (a .table .now) (c .if1 .taken)))
 
 read-requires : tie.Need-read-requires
 read-requires c κs = search needs
@@ -30,7 +29,7 @@ returns-2 c =
     let r = c .before .read .ensures in
     let full = c .before .before .if1 .left in
     let z : readFile 64 xs .refusal ≡ 0 → ⊥ = (λ q. c .if2 .taken (r .1 .0 ∙ q)) in
-    (ap₂ refused (r .1 .0) (r .1 .1) ∙ sym (refused-outcome xs t full z), (omega (arith, r .1 .1, position-small xs), sym (refused-table xs t full z)))
+    (ap₂ refused (r .1 .0) (r .1 .1) ∙ sym (refused-outcome xs t full z), sym (refused-table xs t full z))
 
 solve-requires : tie.Need-solve-requires
 solve-requires c κs = search needs
@@ -60,7 +59,7 @@ returns-3 c =
     let after = s .solve .ensures in
     let held = c .before .before .before .held .ensures ∙ ap₂ (λ (u : Table) (w : ℕ). heldForbidden u (guestOf w)) after (ap (λ (z : Sheet). z .forbidden) (r .0)) in
     let count = c .before .count .ensures ∙ ap (facts 64) after in
-    (c .judged .ensures .0 ∙ ap₂ judgment held count ∙ sym (judged-outcome xs t full ok), (c .judged .ensures .1, after ∙ sym (left xs t full ok)))
+    (c .judged .ensures ∙ ap₂ judgment held count ∙ sym (judged-outcome xs t full ok), after ∙ sym (left xs t full ok))
 
 pub judge-spec : {M : Type 1} → statement M
 judge-spec =

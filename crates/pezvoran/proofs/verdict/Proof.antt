@@ -1,6 +1,8 @@
 -- `pezvoran::verdict` meets its contract. Assumes nothing.
-use mathlib.Core.Path.{ap, _∙_}
-use Rattle.answer.specs.Outcome.{packed}
+use mathlib.Core.Path.{sym, ap, subst, _∙_}
+use native.Mathlib.Omega.{arith}
+use Rattle.answer.specs.Outcome.{packed, Ranged}
+use Rattle.verdicts.proofs.Ranged.{verdict-ranged}
 use borrow.Author.Needs.{needs}
 use Rattle.pezvoran.proofs.verdict.Statement.{statement}
 use Rattle.pezvoran.proofs.verdict.Tie as tie
@@ -9,7 +11,7 @@ judge-requires : tie.Need-judge-requires
 judge-requires c κs = search needs
 
 pack-requires : tie.Need-pack-requires
-pack-requires c κs = search needs
+pack-requires c κs = subst Ranged (sym (c .before .before .judge .ensures .0)) (verdict-ranged 64 (omega arith) _ _)
 
 same-length : tie.Need-same-length
 same-length c = search needs
@@ -17,7 +19,7 @@ same-length c = search needs
 returns : tie.Need-returns
 returns c =
     let j = c .before .before .before .judge .ensures in
-    (c .pack .ensures ∙ ap packed (j .0), j .1 .1)
+    (c .pack .ensures ∙ ap packed (j .0), j .1)
 
 pub verdict-spec : {M : Type 1} → statement M
 verdict-spec = tie.close (tie.spec judge-requires pack-requires same-length returns)

@@ -1,0 +1,47 @@
+-- A store: to the labels that are not built-in. Assumes nothing.
+use borrow.Author.Needs.{needs}
+use Rattle.apply.proofs.Properties.{store-applies}
+use Rattle.apply.proofs.property.store.Statement.{statement}
+use Rattle.apply.proofs.property.store.Tie as tie
+
+held-requires : tie.Need-held-requires
+held-requires c κs = search needs
+
+built-ins-requires : tie.Need-built-ins-requires
+built-ins-requires c κs = search needs
+
+without-requires : tie.Need-without-requires
+without-requires c κs = search needs
+
+held-requires-2 : tie.Need-held-requires-2
+held-requires-2 c κs = search needs
+
+spread-stored-requires : tie.Need-spread-stored-requires
+spread-stored-requires c κs = search needs
+
+same-length : tie.Need-same-length
+same-length c = search needs
+
+returns : tie.Need-returns
+returns c = 
+    let spread = c .before .before in
+    let value = spread .before .before .before in
+    let without = value .before .before in
+    let fixed = without .before in
+    let held = fixed .before in
+    let start = held .before .before .before in
+    let a = start .args in
+    λ p lays. store-applies (a .x .0) (a .a .0) (a .key) (start .pre .0 .apart) lays (held .held .ensures) (fixed .built-ins .ensures) (without .without .ensures)
+    (value .held2 .ensures) (spread .spread-stored .ensures p lays)
+
+pub store-spec : {M : Type 1} → statement M
+store-spec =
+    tie.close
+    (tie.spec
+    held-requires
+    built-ins-requires
+    without-requires
+    held-requires-2
+    spread-stored-requires
+    same-length
+    returns)

@@ -1,0 +1,2 @@
+-- One use of the rules of each statement.
+pub mod Passing

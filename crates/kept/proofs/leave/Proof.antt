@@ -1,0 +1,52 @@
+-- The labels whose rows hold the set already are passed over. Assumes nothing.
+use borrow.Author.Needs.{needs}
+use borrow.Author.Tests.{not-false}
+use mathlib.Core.Path.{refl}
+use Rattle.kept.specs.Pairs.{every}
+use Rattle.kept.proofs.Pairs.{leaves-some}
+use Rattle.kept.proofs.leave.Statement.{statement}
+use Rattle.kept.proofs.leave.Tie as tie
+
+is-kept-requires : tie.Need-is-kept-requires
+is-kept-requires c κs = search needs
+
+returns : tie.Need-returns
+returns c = every refl
+
+with-of-requires : tie.Need-with-of-requires
+with-of-requires c κs = c .before .is-kept .ensures (not-false _ (c .if1 .left))
+
+is-within-requires : tie.Need-is-within-requires
+is-within-requires c κs = search needs
+
+set-of-requires : tie.Need-set-of-requires
+set-of-requires c κs = let else1 = c .before .before .before in else1 .before .is-kept .ensures (not-false _ (else1 .if1 .left))
+
+without-requires : tie.Need-without-requires
+without-requires c κs = search needs
+
+returns-2 : tie.Need-returns-2
+returns-2 c =
+    let set = c .before in
+    let then2 = set .before in
+    let within = then2 .before in
+    let with = within .before in
+    let else1 = with .before in
+    leaves-some (else1 .before .is-kept .ensures (not-false _ (else1 .if1 .left))) (set .set-of .ensures) (with .with-of .ensures)
+    (within .is-within .ensures .0) (then2 .if2 .taken) (c .without .ensures)
+
+returns-3 : tie.Need-returns-3
+returns-3 c = every refl
+
+pub leave-spec : {M : Type 1} → statement M
+leave-spec =
+    tie.close
+    (tie.spec
+    is-kept-requires
+    returns
+    with-of-requires
+    is-within-requires
+    set-of-requires
+    without-requires
+    returns-2
+    returns-3)

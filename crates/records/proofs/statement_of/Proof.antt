@@ -1,0 +1,147 @@
+-- What each kind of record says, by its own function. Assumes nothing.
+use mathlib.Core.Path.{_≡_, refl}
+use mathlib.Core.List.{List}
+use Prim.Native.Nat.{ℕ}
+use borrow.Author.Needs.{needs}
+use borrow.Author.Tests.{ne-eqb}
+use Rattle.rows.specs.Edition.{labels}
+use Rattle.program.specs.Statement.{statementsOf}
+use Rattle.records.specs.Range.{InRange}
+use Rattle.records.specs.Parts.{namedIn, grantIn, propertyIn, heldIn, copyIn, loadIn, storeIn, makeIn, makeFunctionIn, callIn, newIn, throwIn, catchIn, convertIn}
+use Rattle.records.specs.declared.Statement.{Statement}
+use Rattle.records.specs.declared.Statement.the-variants.{Return}
+use Rattle.records.proofs.Saying.{Says, said, named-says, grant-says, property-says, held-says, copy-says, load-says, store-says, make-says, make-function-says, call-says, new-says, return-says, throw-says, catch-says, convert-says}
+use Rattle.records.proofs.statement_of.Statement.{statement}
+use Rattle.records.proofs.statement_of.Tie as tie
+
+-- a kind that is known says f of the body
+spoken : (c : tie.After-shared-slice-known) {n : ℕ} {r : Statement} (f : List ℕ → Statement) → c .before .args .kind ≡ n
+    → r ≡ f (c .before .args .body .now) → ((L : ℕ) (b : List ℕ) → InRange L n b → Says L n b (f b))
+    → Says (labels (c .before .args .wide)) (c .before .args .kind) (c .before .args .body .now) r
+spoken c f e q law = said _ _ e q (c .before .pre) (law (labels (c .before .args .wide)) (c .before .args .body .now))
+
+named-requires : tie.Need-named-requires
+named-requires c κs = search needs
+
+grant-requires : tie.Need-grant-requires
+grant-requires c κs = search needs
+
+property-requires : tie.Need-property-requires
+property-requires c κs = search needs
+
+held-requires : tie.Need-held-requires
+held-requires c κs = search needs
+
+copy-requires : tie.Need-copy-requires
+copy-requires c κs = search needs
+
+load-requires : tie.Need-load-requires
+load-requires c κs = search needs
+
+store-requires : tie.Need-store-requires
+store-requires c κs = search needs
+
+make-requires : tie.Need-make-requires
+make-requires c κs = search needs
+
+make-function-requires : tie.Need-make-function-requires
+make-function-requires c κs = search needs
+
+call-requires : tie.Need-call-requires
+call-requires c κs = search needs
+
+new-requires : tie.Need-new-requires
+new-requires c κs = search needs
+
+throw-requires : tie.Need-throw-requires
+throw-requires c κs = search needs
+
+catch-requires : tie.Need-catch-requires
+catch-requires c κs = search needs
+
+convert-requires : tie.Need-convert-requires
+convert-requires c κs = search needs
+
+returns : tie.Need-returns
+returns c = spoken (c .before .before) namedIn (c .before .match .keys1) (c .named .ensures) named-says
+
+returns-2 : tie.Need-returns-2
+returns-2 c = spoken (c .before .before) grantIn (c .before .match .keys2) (c .grant .ensures) grant-says
+
+returns-3 : tie.Need-returns-3
+returns-3 c = spoken (c .before .before) propertyIn (c .before .match .keys3) (c .property .ensures) property-says
+
+returns-4 : tie.Need-returns-4
+returns-4 c = spoken (c .before .before) heldIn (c .before .match .keys4) (c .held .ensures) held-says
+
+returns-5 : tie.Need-returns-5
+returns-5 c = spoken (c .before .before) copyIn (c .before .match .keys5) (c .copy .ensures) copy-says
+
+returns-6 : tie.Need-returns-6
+returns-6 c = spoken (c .before .before) loadIn (c .before .match .keys6) (c .load .ensures) load-says
+
+returns-7 : tie.Need-returns-7
+returns-7 c = spoken (c .before .before) storeIn (c .before .match .keys7) (c .store .ensures) store-says
+
+returns-8 : tie.Need-returns-8
+returns-8 c = spoken (c .before .before) makeIn (c .before .match .keys8) (c .make .ensures) make-says
+
+returns-9 : tie.Need-returns-9
+returns-9 c = spoken (c .before .before) makeFunctionIn (c .before .match .keys9) (c .make-function .ensures) make-function-says
+
+returns-10 : tie.Need-returns-10
+returns-10 c = spoken (c .before .before) callIn (c .before .match .keys10) (c .call .ensures) call-says
+
+returns-11 : tie.Need-returns-11
+returns-11 c = spoken (c .before .before) newIn (c .before .match .keys11) (c .new .ensures) new-says
+
+returns-12 : tie.Need-returns-12
+returns-12 c = spoken (c .before) (λ b. Return) (c .match .keys12) refl return-says
+
+returns-13 : tie.Need-returns-13
+returns-13 c = spoken (c .before .before) throwIn (c .before .match .keys13) (c .throw .ensures) throw-says
+
+returns-14 : tie.Need-returns-14
+returns-14 c = spoken (c .before .before) catchIn (c .before .match .keys14) (c .catch .ensures) catch-says
+
+returns-15 : tie.Need-returns-15
+returns-15 c = spoken (c .before .before) convertIn (c .before .match .keys15) (c .convert .ensures) convert-says
+
+returns-16 : tie.Need-returns-16
+unfolding statementsOf
+returns-16 c = (λ p. search (needs, ne-eqb), tt)
+
+pub statement-of-spec : {M : Type 1} → statement M
+statement-of-spec =
+    tie.close
+    (tie.spec
+    named-requires
+    grant-requires
+    property-requires
+    held-requires
+    copy-requires
+    load-requires
+    store-requires
+    make-requires
+    make-function-requires
+    call-requires
+    new-requires
+    throw-requires
+    catch-requires
+    convert-requires
+    returns
+    returns-2
+    returns-3
+    returns-4
+    returns-5
+    returns-6
+    returns-7
+    returns-8
+    returns-9
+    returns-10
+    returns-11
+    returns-12
+    returns-13
+    returns-14
+    returns-15
+    returns-16)

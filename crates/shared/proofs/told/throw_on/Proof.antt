@@ -1,0 +1,54 @@
+-- What functions throw, joined to the row of a scope. Assumes nothing.
+use borrow.Author.Needs.{needs}
+use lib.ListN.{length}
+use Rattle.kept.specs.Promise.{throws}
+use Rattle.uses.proofs.Rows.{row-fits, row-is}
+use Rattle.shared.proofs.Applied.{applies-told}
+use Rattle.shared.proofs.told.throw_on.Statement.{statement}
+use Rattle.shared.proofs.told.throw_on.Tie as tie
+
+thrown-requires : tie.Need-thrown-requires
+thrown-requires c κs = search needs
+
+row-requires : tie.Need-row-requires
+row-requires c κs =
+    let thrown = c .before in
+    let start = thrown .before .before in
+    let a = start .args in
+    row-fits (a .wide) (a .o) (thrown .thrown .result) (length (a .t .now)) (start .pre .0 .room) (thrown .thrown .ensures .1)
+
+told-throws-requires : tie.Need-told-throws-requires
+told-throws-requires c κs = search needs
+
+join-requires : tie.Need-join-requires
+join-requires c κs =
+    let thrown = c .before .before .before .before .before .before in
+    let start = thrown .before .before in
+    let a = start .args in
+    row-fits (a .wide) (a .o) (thrown .thrown .result) (length (a .t .now)) (start .pre .0 .room) (thrown .thrown .ensures .1)
+
+same-length : tie.Need-same-length
+same-length c = search needs
+
+returns : tie.Need-returns
+returns c =
+    let join = c .before .before in
+    let told = join .before .before in
+    let row = told .before .before .before in
+    let thrown = row .before .before in
+    let start = thrown .before .before in
+    let a = start .args in
+    λ p. rw (← thrown .thrown .ensures .0)
+    (applies-told throws (start .pre .0 .apart) (thrown .thrown .ensures .1)
+    (row-is (a .wide) (a .o) (a .t .now) (thrown .thrown .result) (thrown .thrown .ensures .1) (row .row .ensures)) (told .told-throws .ensures p) (join .join .ensures))
+
+pub throw-on-spec : {M : Type 1} → statement M
+throw-on-spec =
+    tie.close
+    (tie.spec
+    thrown-requires
+    row-requires
+    told-throws-requires
+    join-requires
+    same-length
+    returns)

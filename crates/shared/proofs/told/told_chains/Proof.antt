@@ -1,0 +1,48 @@
+-- The chains of labels, by the pair. Assumes nothing.
+use borrow.Author.Needs.{needs}
+use Rattle.kept.proofs.Slots.{slot-chains}
+use Rattle.kept.proofs.Tellings.{asks-room, tellings}
+use Rattle.shared.proofs.Families.{labels-some, chains-told}
+use Rattle.shared.proofs.told.told_chains.Statement.{statement}
+use Rattle.shared.proofs.told.told_chains.Tie as tie
+
+chain-pair-requires : tie.Need-chain-pair-requires
+chain-pair-requires c κs = search needs
+
+none-requires : tie.Need-none-requires
+none-requires c κs = search needs
+
+ask-requires : tie.Need-ask-requires
+ask-requires c κs = search needs
+
+chain-requires : tie.Need-chain-requires
+chain-requires c κs = labels-some (c .before .before .before .before .before .before .args .wide)
+
+gather-requires : tie.Need-gather-requires
+gather-requires c κs = search needs
+
+answer-requires : tie.Need-answer-requires
+answer-requires c κs = asks-room (c .before .before .before .before .ask .ensures)
+
+returns : tie.Need-returns
+returns c =
+    let gather = c .before .before in
+    let chain = gather .before in
+    let ask = chain .before .before in
+    let none = ask .before .before in
+    let pair = none .before in
+    let start = pair .before .before in
+    λ p. tellings p _ tt (λ i. slot-chains (pair .chain-pair .result) (pair .chain-pair .ensures)) (rw (none .none .ensures) at (ask .ask .ensures))
+    (chains-told (start .args .wide) p _ (chain .chain .ensures .0) (gather .gather .ensures)) (c .answer .ensures)
+
+pub told-chains-spec : {M : Type 1} → statement M
+told-chains-spec =
+    tie.close
+    (tie.spec
+    chain-pair-requires
+    none-requires
+    ask-requires
+    chain-requires
+    gather-requires
+    answer-requires
+    returns)
