@@ -1,18 +1,17 @@
-// A test of the reader: prints what reading gives for each file of `data/cases`, and for files of 32,767 to 32,769 bytes. The cases are the edges of
-// every field of every kind, cut records and functions left out; they and what this program must print come from the reader in tests/second,
-// which was written from document 01 alone (`cargo run --example edge_cases` there). Where they cannot be read nothing is printed, and a line on
-// standard error says why.
+// A test of the reader: prints what reading gives for each file of `data/cases`, and for files of 32,767 to 32,769 bytes, in the edition of 64 labels
+// and then in that of 256. The cases are the edges of every field of every kind, cut records and functions left out; they and what this program must
+// print come from the reader in tests/second, which was written from document 01 alone (`cargo run --example edge_cases` there). Where they cannot be
+// read nothing is printed, and a line on standard error says why.
 use input::Got;
 use libc::STDERR_FILENO;
 use libc::STDOUT_FILENO;
-ghost use Prim.Native.Nat.{_<_};
 
 // One byte more than the cases may have.
 const MOST: usize = 262144;
 
 // What reading a file gives.
-fn show(file: &[u8]) {
-    let r = reader::read(file);
+fn show(file: &[u8], wide: bool) {
+    let r = reader::read(file, wide);
     let no = r.refusal;
     let position = r.position;
     if no == 0 {
@@ -26,34 +25,33 @@ fn show(file: &[u8]) {
     io::write_all(STDOUT_FILENO, b"\n");
 }
 
-fn wide(b: u8) -> usize
-    ensures { λ r. ⌜ r < 256 ⌝ }
-{
-    b as usize
-}
-
 // Each case: two bytes of length, the low one first, then the file.
-fn show_all(cases: &[u8]) {
+fn show_all(cases: &[u8], wide: bool) {
     let mut at: usize = 0;
     while at < cases.len() {
         if cases.len() - at < 2 {
             return;
         }
-        let n = wide(cases[at]) + 256 * wide(cases[at + 1]);
+        let n = fields::index(cases[at]) + 256 * fields::index(cases[at + 1]);
         if cases.len() - at - 2 < n {
             return;
         }
-        show(&cases[at + 2..at + 2 + n]);
+        show(&cases[at + 2..at + 2 + n], wide);
         at = at + 2 + n;
     }
 }
 
 // The files of the largest size, and of a byte less and more.
-fn show_sizes() {
+fn show_sizes(wide: bool) {
     let full = [3u8; 32769];
-    show(&full[..32767]);
-    show(&full[..32768]);
-    show(&full);
+    show(&full[..32767], wide);
+    show(&full[..32768], wide);
+    show(&full, wide);
+}
+
+fn show_edition(cases: &[u8], wide: bool) {
+    show_all(cases, wide);
+    show_sizes(wide);
 }
 
 fn main() {
@@ -77,8 +75,9 @@ fn main() {
             if n == MOST {
                 io::write_all(STDERR_FILENO, b"cases: is too long\n");
             } else {
-                show_all(&cases[..n]);
-                show_sizes();
+                let list = &cases[..n];
+                show_edition(list, false);
+                show_edition(list, true);
             }
         }
         Got::Failed => os::fail(name),

@@ -139,8 +139,9 @@ impl Sheet {
         ensures { λ r. ⌜ r .refusal ≡ wholeRefusal (sheetOf wide self) 3 (now (body .entry)) ⌝ }
         ensures { λ r. ⌜ sheetOf wide (r .sheet) ≡ handedBack (sheetOf wide self) 3 (now (body .entry)) ⌝ }
     {
+        let l = body[0];
         let forbidden = self.forbidden;
-        let more = sets::union(wide, forbidden, sets::single(wide, Label(body[0])));
+        let more = sets::union(wide, forbidden, sets::single(wide, Label(l)));
         self.forbidden = more;
         Taken {
             sheet: self,

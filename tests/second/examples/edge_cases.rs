@@ -1,15 +1,17 @@
 //! Writes the cases of the Rattle program `edges` and what it must print: good and bad values side by side for every field of every kind,
-//! every cut record, a function left out, and files at the size limit. Run from this package's folder.
+//! every cut record, a function left out, and files at the size limit, in the small edition and then in the large one. Run from this package's
+//! folder.
 
+use second::edition::Edition;
 use second::generate::edges;
-use second::reader::read;
+use second::reader::read_in;
 use std::fs;
 
 /// The byte values on both sides of every border that document 01 draws.
 const BORDERS: [u8; 24] = [0, 1, 2, 3, 4, 5, 6, 7, 8, 9, 10, 11, 12, 13, 31, 32, 63, 64, 127, 128, 135, 136, 254, 255];
 
-fn line(file: &[u8]) -> String {
-    match read(file) {
+fn line(edition: Edition, file: &[u8]) -> String {
+    match read_in(edition, file) {
         Ok(_) => "read\n".to_string(),
         Err(r) => format!("refused {} {}\n", r.number, r.position),
     }
@@ -26,18 +28,19 @@ fn wanted(name: &str) -> bool {
 }
 
 fn main() -> std::io::Result<()> {
-    let (mut cases, mut lines) = (Vec::new(), String::new());
-    for (name, file) in edges() {
-        if wanted(&name) {
-            cases.extend_from_slice(&(file.len() as u16).to_le_bytes());
-            cases.extend_from_slice(&file);
-            lines += &line(&file);
-        }
+    let mut files: Vec<Vec<u8>> = edges().into_iter().filter(|(name, _)| wanted(name)).map(|(_, file)| file).collect();
+    files.push(Vec::new());
+    let mut cases = Vec::new();
+    for file in &files {
+        cases.extend_from_slice(&(file.len() as u16).to_le_bytes());
+        cases.extend_from_slice(file);
     }
-    cases.extend_from_slice(&[0, 0]);
-    lines += &line(&[]);
-    for length in [32_767, 32_768, 32_769] {
-        lines += &line(&vec![3; length]);
+    files.extend([32_767, 32_768, 32_769].map(|length| vec![3; length]));
+    let mut lines = String::new();
+    for edition in Edition::BOTH {
+        for file in &files {
+            lines += &line(edition, file);
+        }
     }
     fs::write("../../crates/edges/data/cases", &cases)?;
     fs::write("../../crates/edges/stdout", &lines)?;

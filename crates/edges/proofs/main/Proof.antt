@@ -43,14 +43,14 @@ write-all-requires-2 c κs = search needs
 array-share-prefix-cases : tie.Need-array-share-prefix-cases
 array-share-prefix-cases c = search (needs, read-within _ _ _ (c .before .before .got .given .1) (c .before .before .before .before .before .read-all .ensures))
 
-slice-aggregate-show-all : tie.Need-slice-aggregate-show-all
-slice-aggregate-show-all c = search (needs, read-within _ _ _ (c .before .before .before .got .given .1) (c .before .before .before .before .before .before .read-all .ensures))
+slice-aggregate-list : tie.Need-slice-aggregate-list
+slice-aggregate-list c = search (needs, read-within _ _ _ (c .before .before .before .got .given .1) (c .before .before .before .before .before .before .read-all .ensures))
 
-show-all-requires : tie.Need-show-all-requires
-show-all-requires c κs = search needs
+show-edition-requires : tie.Need-show-edition-requires
+show-edition-requires c κs = search needs
 
-show-sizes-requires : tie.Need-show-sizes-requires
-show-sizes-requires c κs = search needs
+show-edition-requires-2 : tie.Need-show-edition-requires-2
+show-edition-requires-2 c κs = search needs
 
 enum-told : tie.Need-enum-told
 enum-told c = search needs
@@ -81,9 +81,9 @@ main-spec =
     slice-aggregate-write-all-2
     write-all-requires-2
     array-share-prefix-cases
-    slice-aggregate-show-all
-    show-all-requires
-    show-sizes-requires
+    slice-aggregate-list
+    show-edition-requires
+    show-edition-requires-2
     enum-told
     fail-requires-2
     close-requires

@@ -5,8 +5,8 @@ use borrow.Author.Needs.{needs}
 use Rattle.sheet.proofs.Sheet.take_forbid.Statement.{statement}
 use Rattle.sheet.proofs.Sheet.take_forbid.Tie as tie
 
-shared-slice-read-t8 : tie.Need-shared-slice-read-t8
-shared-slice-read-t8 c = search needs
+shared-slice-read-l : tie.Need-shared-slice-read-l
+shared-slice-read-l c = search needs
 
 single-requires : tie.Need-single-requires
 single-requires c κs = search needs
@@ -19,4 +19,4 @@ unfolding wholeRefusal misnamed twice after
 returns c = rw (c .union .ensures, c .before .single .ensures) (refl, refl)
 
 pub take-forbid-spec : {M : Type 1} → statement M
-take-forbid-spec = tie.close (tie.spec shared-slice-read-t8 single-requires union-requires returns)
+take-forbid-spec = tie.close (tie.spec shared-slice-read-l single-requires union-requires returns)
