@@ -176,8 +176,7 @@ module _ {wide : Bool} {o : ℕ} {p : Program} {host : List ℕ} (k y c : ℕ) (
       forth : (a : Table) → Within (tableOf wide t) a → (r l : ℕ) → Enters wide p k y fs inputs a r l
           → Told (labels wide) a (calling p k y c (inputs .this .0) (arguments inputs)) r l
       forth a i r l h =
-          let g = entered wide p k y fs inputs a r l h in
-          (
+          let g = entered wide p k y fs inputs a r l h in (
             g .0,
             i c (g .0) (rw is-held at (held-of wide host held is-fs (g .0) (g .1))),
             told-when (labels wide) a (entering p k y (inputs .this .0) (arguments inputs) (g .0)) (isFunction (p .sheet) (g .0)) r l (functions-are held lays is-fs (g .0) (g .1)) (g .2),

@@ -2,3 +2,4 @@ pub mod Through
 pub mod Properties
 pub mod Calls
 pub mod Conversions
+pub mod Saying

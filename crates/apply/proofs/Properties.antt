@@ -82,8 +82,7 @@ module _ {wide : Bool} {o : ℕ} {p : Program} {host : List ℕ} (x a key : ℕ)
       forth : (b : Table) → Within (tableOf wide t) b → (r l : ℕ) → spreading wide p (stored key) s value b r l → Told (labels wide) b (storing p x key a) r l
       forth b i r l h =
           let m = h .0 in
-          let e : On (difference held fixed) m = rw is-s at (h .1) in
-          (
+          let e : On (difference held fixed) m = rw is-s at (h .1) in (
             m,
             i x m (rw is-held at (on-difference held fixed m e)),
             told-when (labels wide) b (body m) (not (builtIn (p .sheet) m)) r l

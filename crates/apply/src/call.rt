@@ -99,7 +99,18 @@ pub fn call(
     }
     let inputs = site.inputs;
     let handed = hand_all(t, o, wide, formals, keeps, fs, inputs);
-    let back = hand_back(t, o, wide, first, second, third, fourth, keeps, site.result, fs);
+    let back = hand_back(
+        t,
+        o,
+        wide,
+        first,
+        second,
+        third,
+        fourth,
+        keeps,
+        site.result,
+        fs,
+    );
     let thrown = throw_on(t, o, wide, keeps, site.scope, fs);
     handed | (back | thrown)
 }
@@ -158,7 +169,17 @@ pub fn make_new(
         l,
     );
     let called = call(
-        t, o, wide, host, formals, first, second, third, fourth, keeps, site,
+        t,
+        o,
+        wide,
+        host,
+        formals,
+        first,
+        second,
+        third,
+        fourth,
+        keeps,
+        site,
     );
     made | called
 }
@@ -173,7 +194,9 @@ pub fn include_held(t: &mut [u64], o: usize, wide: bool, y: Var, x: Var) -> bool
 
 // The names that new and prim look under.
 const PROTOTYPE: u8 = 3;
+
 const TO_STRING: u8 = 1;
+
 const VALUE_OF: u8 = 2;
 
 // `converting`: for each function found under toString or valueOf along the object's chains: its this gets S(object), T(k) what it throws.

@@ -1,4 +1,89 @@
-// x
+// One use of the rules of each statement, beside the names of their definitions (crate analysis): what the rule tells of the table at 0 is joined to the table
+// at o, in place or into a second table.
+ghost use lib.ListN.{length};
+ghost use Rattle.rows.specs.Edition.{labels};
+ghost use Rattle.program.specs.Program.{Program};
+ghost use Rattle.uses.specs.Use.{Lent, tells};
+ghost use Rattle.records.specs.Say.{ruleBy, InBounds};
+ghost use Rattle.host.specs.Lays.{Lays, FormalsOf, ReturnsOf};
+ghost use Rattle.shared.specs.Apply.{Applies};
+use crate::call::call;
+use crate::call::convert;
+use crate::call::make_new;
+use crate::plain::catch;
+use crate::plain::copy;
+use crate::plain::give_label;
+use crate::plain::grant;
+use crate::plain::make_function;
+use crate::plain::name_variable;
+use crate::plain::set_property;
+use crate::plain::throw;
+use crate::property::load;
+use crate::property::store;
+use records::Statement;
+
 pub mod call;
 pub mod plain;
 pub mod property;
+
+// One use of the rules of a statement.
+pub fn apply(
+    t: &mut [u64],
+    o: usize,
+    wide: bool,
+    host: &[u64; 16],
+    formals: &[u8; 1792],
+    first: &[u64; 256],
+    second: &[u64; 256],
+    third: &[u64; 256],
+    fourth: &[u64; 256],
+    keeps: &mut [u64; 256],
+    s: Statement,
+) -> bool
+    requires { ⌜ Lent wide o (length (now t)) × InBounds (labels wide) s ⌝ }
+    ensures { λ grew. ⌜ ((p : Program) → Lays wide p (now (host .entry)) → FormalsOf p (now (formals .entry)) → ReturnsOf p (record { first = now (first .entry); second = now (second .entry); third = now (third .entry); fourth = now (fourth .entry) }) → Applies wide o p (tells wide (ruleBy p s)) (now (t .entry)) (now (keeps .entry)) (now (t .exit)) (now (keeps .exit)) grew) ⌝ }
+{
+    match s {
+        Statement::Nothing => false,
+        Statement::Named(v, n) => name_variable(t, o, wide, v, n),
+        Statement::Grant(v) => grant(t, o, wide, v),
+        Statement::Property(l, n, m) => set_property(t, o, wide, l, n, m),
+        Statement::Held(v, l) => give_label(t, o, wide, v, l),
+        Statement::Copy(y, x) => copy(t, o, wide, y, x),
+        Statement::Load(y, x, key, w) => load(t, o, wide, host, keeps, y, x, key, w),
+        Statement::Store(x, key, a) => store(t, o, wide, host, keeps, x, key, a),
+        Statement::Make(y, l) => give_label(t, o, wide, y, l),
+        Statement::MakeFunction(y, l, q) => make_function(t, o, wide, y, l, q),
+        Statement::Call(site) => call(
+            t,
+            o,
+            wide,
+            host,
+            formals,
+            first,
+            second,
+            third,
+            fourth,
+            keeps,
+            site,
+        ),
+        Statement::New(site, l) => make_new(
+            t,
+            o,
+            wide,
+            host,
+            formals,
+            first,
+            second,
+            third,
+            fourth,
+            keeps,
+            site,
+            l,
+        ),
+        Statement::Return => false,
+        Statement::Throw(k, x) => throw(t, o, wide, k, x),
+        Statement::Catch(k, y) => catch(t, o, wide, k, y),
+        Statement::Convert(k, x) => convert(t, o, wide, host, formals, keeps, k, x),
+    }
+}

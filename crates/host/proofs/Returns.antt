@@ -9,7 +9,6 @@ use native.Mathlib.Omega.{arith}
 use lib.ListN.{getD}
 use Rattle.words.specs.Words.{bit}
 use Rattle.words.proofs.Bits.{On, on-below}
-
 use Rattle.rules.specs.Table.{Table, Has}
 use Rattle.program.specs.Program.{Program, isFunction, returnsOf}
 use Rattle.sets.specs.Value.{wordsOf, value}

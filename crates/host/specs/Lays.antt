@@ -67,7 +67,6 @@ ReturnsOf p r = (f x : ℕ) → isFunction (p .sheet) f ≡ true → ((x < 256) 
 abbrev pub handedBack : Returns → Table → ℕ → ℕ → Type 0
 handedBack r t f m = (x : ℕ) × (x < 256) × HandsBack r f x × Has t x m
 
-
 -- r is `start` with the labels of the variables that the f-th function of the array ws returns
 pub record Handing (ws : List ℕ) (f : ℕ) (t : Table) (start r : ℕ) : Type 0 where
   pub source : (m : ℕ) → bit r m ≡ 1

@@ -10,14 +10,14 @@ row-requires : tie.Need-row-requires
 row-requires c κs = search needs
 
 row-requires-2 : tie.Need-row-requires-2
-row-requires-2 c κs = 
+row-requires-2 c κs =
     let row = c in
     let start = row .before .before in
     let a = start .args in
     row-read (a .wide) (row .row .result) (length (a .t .now)) (start .pre) (variable-row (a .wide) (row .row .ensures .1))
 
 returns : tie.Need-returns
-returns c = 
+returns c =
     let row = c .before in
     let start = row .before .before in
     let a = start .args in

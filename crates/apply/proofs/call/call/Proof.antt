@@ -19,7 +19,7 @@ same-length : tie.Need-same-length
 same-length c = search needs
 
 returns : tie.Need-returns
-returns c = 
+returns c =
     let empty = c .before in
     let fs = empty .before in
     let held = fs .before in
@@ -29,17 +29,17 @@ returns c =
     (is-none _ (empty .is-empty .ensures) (c .if1 .taken))
 
 hand-all-requires : tie.Need-hand-all-requires
-hand-all-requires c κs = 
+hand-all-requires c κs =
     let start = c .before .before .before .before .before .before .before .before .before in
     record { room = search needs; apart = start .pre .0 .apart }
 
 hand-back-requires : tie.Need-hand-back-requires
-hand-back-requires c κs = 
+hand-back-requires c κs =
     let start = c .before .before .before .before .before .before .before .before .before .before .before .before .before .before in
     record { room = search needs; apart = start .pre .0 .apart }
 
 throw-on-requires : tie.Need-throw-on-requires
-throw-on-requires c κs = 
+throw-on-requires c κs =
     let start = c .before .before .before .before .before .before .before .before .before .before .before .before .before .before .before .before .before .before .before in
     (record { room = search needs; apart = start .pre .0 .apart }, start .pre .1)
 
@@ -47,7 +47,7 @@ same-length-2 : tie.Need-same-length-2
 same-length-2 c = search needs
 
 returns-2 : tie.Need-returns-2
-returns-2 c = 
+returns-2 c =
     let hurl = c .before .before in
     let back = hurl .before .before .before .before .before in
     let all = back .before .before .before .before .before in

@@ -36,7 +36,7 @@ same-length : tie.Need-same-length
 same-length c = search needs
 
 returns : tie.Need-returns
-returns c = 
+returns c =
     let empty = c .before in
     let fs = empty .before in
     let union = fs .before in
@@ -52,12 +52,12 @@ returns c =
     (rw (union .union .ensures) at (fs .functions-in .ensures)) (is-none _ (empty .is-empty .ensures) (c .if1 .taken))
 
 spread-inputs-requires : tie.Need-spread-inputs-requires
-spread-inputs-requires c κs = 
+spread-inputs-requires c κs =
     let start = c .before .before .before .before .before .before .before .before .before .before .before .before .before .before .before .before .before .before .before in
     (record { room = search needs; apart = start .pre .0 .apart }, omega arith)
 
 throw-on-requires : tie.Need-throw-on-requires
-throw-on-requires c κs = 
+throw-on-requires c κs =
     let start = c .before .before .before .before .before .before .before .before .before .before .before .before .before .before .before .before .before .before .before .before .before .before .before .before in
     (record { room = search needs; apart = start .pre .0 .apart }, start .pre .1)
 
@@ -65,7 +65,7 @@ same-length-2 : tie.Need-same-length-2
 same-length-2 c = search needs
 
 returns-2 : tie.Need-returns-2
-returns-2 c = 
+returns-2 c =
     let hurl = c .before .before in
     let spread = hurl .before .before .before .before .before in
     let empty = spread .before .before .before .before in

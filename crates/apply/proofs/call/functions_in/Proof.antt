@@ -14,7 +14,7 @@ meet-requires : tie.Need-meet-requires
 meet-requires c κs = search needs
 
 returns : tie.Need-returns
-returns c = 
+returns c =
     let a = c .before .before .args in
     c .meet .ensures ∙ ap (λ (x : ℕ). bitAnd (value (a .wide) (a .s)) x) (c .before .functions .ensures)
 

@@ -29,7 +29,7 @@ at-requires : tie.Need-at-requires Inv-loop μ-loop
 at-requires c κs = search needs
 
 hand-over-requires : tie.Need-hand-over-requires Inv-loop μ-loop
-hand-over-requires c κs = 
+hand-over-requires c κs =
     let at = c in
     let loop = at .before .before .before .before in
     let start = loop .before .before in
@@ -42,13 +42,12 @@ loop-less : tie.Need-loop-less Inv-loop μ-loop
 loop-less c = search needs
 
 loop-again : tie.Need-loop-again Inv-loop μ-loop
-loop-again c = 
+loop-again c =
     let over = c .before .before in
     let at = over .before in
     let loop = at .before .before .before .before in
     let start = loop .before .before in
-    let a = start .args in
-    (
+    let a = start .args in (
       search needs,
       search needs,
       λ p formals functions. hands-next (value (a .wide) (a .fs)) (inputAt (a .inputs)) (loop .loop .j) (start .pre .apart) (loop .loop .inv .2 p formals functions)
@@ -59,7 +58,7 @@ same-length : tie.Need-same-length Inv-loop μ-loop
 same-length c = search needs
 
 returns : tie.Need-returns Inv-loop μ-loop
-returns c = 
+returns c =
     let loop = c .before in
     let e : loop .loop .j ≡ 7 = omega (arith, loop .loop .inv .1, c .loop-test .left) in
     λ p formals functions. rw (← e) (loop .loop .inv .2 p formals functions)

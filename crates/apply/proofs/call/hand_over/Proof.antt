@@ -16,7 +16,7 @@ same-length : tie.Need-same-length
 same-length c = search needs
 
 returns : tie.Need-returns
-returns c = 
+returns c =
     let empty = c .before in
     let held = empty .before in
     let start = held .before .before .before in
@@ -30,7 +30,7 @@ same-length-2 : tie.Need-same-length-2
 same-length-2 c = search needs
 
 returns-2 : tie.Need-returns-2
-returns-2 c = 
+returns-2 c =
     let spread = c .before .before in
     let held = spread .before .before .before .before .before in
     let start = held .before .before .before in

@@ -6,12 +6,12 @@ use Rattle.apply.proofs.call.make_new.Statement.{statement}
 use Rattle.apply.proofs.call.make_new.Tie as tie
 
 make-object-requires : tie.Need-make-object-requires
-make-object-requires c κs = 
+make-object-requires c κs =
     let start = c .before .before .before .before in
     (start .pre .0, start .pre .2)
 
 call-requires : tie.Need-call-requires
-call-requires c κs = 
+call-requires c κs =
     let start = c .before .before .before .before .before .before .before .before .before in
     (record { room = search needs; apart = start .pre .0 .apart }, start .pre .1)
 
@@ -19,7 +19,7 @@ same-length : tie.Need-same-length
 same-length c = search needs
 
 returns : tie.Need-returns
-returns c = 
+returns c =
     let called = c .before .before in
     let made = called .before .before .before .before .before in
     let start = made .before .before .before .before .before in

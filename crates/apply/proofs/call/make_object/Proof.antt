@@ -11,12 +11,12 @@ row-requires : tie.Need-row-requires
 row-requires c κs = search needs
 
 give-requires : tie.Need-give-requires
-give-requires c κs = 
+give-requires c κs =
     let start = c .before .before .before in
     (start .pre .0, variable-row (start .args .wide) (c .row .ensures .1), start .pre .1)
 
 include-held-requires : tie.Need-include-held-requires
-include-held-requires c κs = 
+include-held-requires c κs =
     let give = c .before .before .before in
     let start = give .before .before .before .before in
     rw (reached-length (give .give .ensures .only)) (start .pre .0)
@@ -31,7 +31,7 @@ chain-requires : tie.Need-chain-requires
 chain-requires c κs = search needs
 
 look-up-requires : tie.Need-look-up-requires
-look-up-requires c κs = 
+look-up-requires c κs =
     let told = c .before .before .before in
     let same = told .before .before .before .before .before .before .before in
     let give = same .before .before .before .before in
@@ -42,7 +42,7 @@ same-length : tie.Need-same-length
 same-length c = search needs
 
 returns : tie.Need-returns
-returns c = 
+returns c =
     let look = c .before .before in
     let chain = look .before in
     let told = chain .before .before .before in

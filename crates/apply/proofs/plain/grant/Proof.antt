@@ -16,7 +16,7 @@ same-length : tie.Need-same-length
 same-length c = search needs
 
 returns : tie.Need-returns
-returns c = 
+returns c =
     let same = c .before .before in
     rw (same .before .before .row .ensures .0, same .before .row2 .ensures .0) at (same .same .ensures)
 

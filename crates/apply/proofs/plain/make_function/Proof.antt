@@ -14,7 +14,7 @@ same-length : tie.Need-same-length
 same-length c = search needs
 
 returns : tie.Need-returns
-returns c = 
+returns c =
     let set = c .before .before in
     let made = set .before .before .before .before in
     let apart = made .before .before .before .pre .0 .apart in

@@ -12,7 +12,7 @@ property-requires : tie.Need-property-requires
 property-requires c κs = search needs
 
 same-requires : tie.Need-same-requires
-same-requires c κs = 
+same-requires c κs =
     let start = c .before .before .before .before in
     (start .pre .0, variable-row (start .args .wide) (c .before .row .ensures .1), rw (c .property .ensures .0) (property-row (start .args .wide) (labels-some (start .args .wide)) (start .pre .1)))
 
@@ -20,7 +20,7 @@ same-length : tie.Need-same-length
 same-length c = search needs
 
 returns : tie.Need-returns
-returns c = 
+returns c =
     let same = c .before .before in
     rw (same .before .before .row .ensures .0, same .before .property .ensures .0) at (same .same .ensures)
 

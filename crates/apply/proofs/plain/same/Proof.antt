@@ -14,7 +14,7 @@ same-length : tie.Need-same-length
 same-length c = search needs
 
 returns : tie.Need-returns
-returns c = 
+returns c =
     let second = c .before .before in
     let first = second .before .before .before .before in
     let apart = first .before .before .before .pre .0 .apart in

@@ -28,7 +28,7 @@ row-requires-2 : tie.Need-row-requires-2
 row-requires-2 c κs = search needs
 
 look-up-requires : tie.Need-look-up-requires
-look-up-requires c κs = 
+look-up-requires c κs =
     let row = c in
     let told = row .before .before .before in
     let give = told .before .before .before .before .before .before .before .before .before in
@@ -39,7 +39,7 @@ same-length : tie.Need-same-length
 same-length c = search needs
 
 returns : tie.Need-returns
-returns c = 
+returns c =
     let look = c .before .before in
     let row2 = look .before in
     let told = row2 .before .before .before in

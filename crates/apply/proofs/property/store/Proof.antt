@@ -23,7 +23,7 @@ same-length : tie.Need-same-length
 same-length c = search needs
 
 returns : tie.Need-returns
-returns c = 
+returns c =
     let spread = c .before .before in
     let value = spread .before .before .before in
     let without = value .before .before in

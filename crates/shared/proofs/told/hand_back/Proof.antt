@@ -11,7 +11,7 @@ row-requires : tie.Need-row-requires
 row-requires c κs = search needs
 
 row-requires-2 : tie.Need-row-requires-2
-row-requires-2 c κs = 
+row-requires-2 c κs =
     let row = c .before in
     let start = row .before .before in
     let a = start .args in
@@ -21,7 +21,7 @@ told-handed-requires : tie.Need-told-handed-requires
 told-handed-requires c κs = search needs
 
 join-requires : tie.Need-join-requires
-join-requires c κs = 
+join-requires c κs =
     let row = c .before .before .before .before .before .before in
     let start = row .before .before in
     let a = start .args in
@@ -31,7 +31,7 @@ same-length : tie.Need-same-length
 same-length c = search needs
 
 returns : tie.Need-returns
-returns c = 
+returns c =
     let join = c .before .before in
     let told = join .before .before in
     let have = told .before .before .before in

@@ -16,7 +16,7 @@ answer-requires : tie.Need-answer-requires
 answer-requires c κs = asks-room (c .before .before .before .ask .ensures)
 
 returns : tie.Need-returns
-returns c = 
+returns c =
     let gather = c .before .before in
     let ask = gather .before .before in
     λ p returning functions. tellings p _ tt (λ i. slot-handed) (ask .ask .ensures)
