@@ -1,0 +1,5 @@
+-- Laws that other crates cite. Assumes nothing.
+pub mod Tables
+pub mod Finished
+pub mod Counted
+pub mod Narrow
