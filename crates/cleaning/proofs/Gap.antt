@@ -13,6 +13,9 @@ use Rattle.rules.specs.Rule.{Rule}
 use Rattle.rules.specs.Told.{Told, Fits}
 use Rattle.rules.specs.Gap.{Enlarges, gap, Finds}
 use Rattle.rules.proofs.Gap.{finds-gap}
+use Rattle.format.specs.Sheet.{Sheet}
+use Rattle.verdicts.specs.Check.{cleaned}
+use Rattle.verdicts.proofs.Cleaned.{cleaned-small}
 use Rattle.lent.specs.Table.{wordCount, tableAt}
 use Rattle.uses.specs.Use.{tells, Used}
 use Rattle.uses.proofs.Use.{reached-apart, apart-only}
@@ -62,3 +65,9 @@ grown-gap {wide} p f {c} {t} {u} {r} small both used grown =
     lowest q e (yes h) =
         let told : Told L (tableAt wide 0 t) p q (e .0) = subst (λ (x : Table). Told L x p q (e .0)) (sym (both .first)) (e .1) in
         absurd (e .2 (held q (e .0) (grown .below q (e .0) h (used .all q (e .0) told))))
+
+-- of the given table, cleaned
+pub cleaned-gap : {wide : Bool} (p : Rule) → Fits (labels wide) p → (s : Sheet) (given : Table) {t u : List ℕ} {r : ℕ} {grew : Bool}
+    → Both wide (cleaned (labels wide) s given) t → Used wide (wordCount wide) (tells wide p) t t u grew → Grown wide u r
+    → r ≡ gap (labels wide) (cleaned (labels wide) s given) p
+cleaned-gap {wide} p f s given both used grown = grown-gap p f (cleaned-small (labels wide) s given) both used grown

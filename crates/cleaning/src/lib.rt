@@ -74,14 +74,14 @@ pub fn lowest_grown(t: &[u64], wide: bool) -> usize
 {
     let n = rows::row_count(wide);
     let o = rows::word_count(wide);
-    let mut r: usize = 0;
-    while r < n {
-        let old = lent::row(t, 0, wide, r);
-        let new = lent::row(t, o, wide, r);
+    let mut low: usize = 0;
+    while low < n {
+        let old = lent::row(t, 0, wide, low);
+        let new = lent::row(t, o, wide, low);
         if !sets::is_within(wide, new, old) {
-            return r;
+            return low;
         }
-        r += 1;
+        low += 1;
     }
-    r
+    low
 }

@@ -1,6 +1,6 @@
 -- What closes the verdict: once a pass in place adds nothing, the table is the least one above that at the start; and a pass that adds something adds to the
 -- number of facts, which is bounded. Assumes nothing.
-use mathlib.Core.Path.{_≡_, refl, sym, _∙_, subst}
+use mathlib.Core.Path.{_≡_, refl, sym, ap, _∙_, subst}
 use mathlib.Core.Bool.{Bool, true, false}
 use mathlib.Core.List.{List}
 use Prim.Native.Nat.{ℕ, zero, suc, _+_, _*_, _/_, _^_, _≤_, _<_}
@@ -15,11 +15,11 @@ use Rattle.words.proofs.Laws.{bit-shifted, lowest}
 use Rattle.words.proofs.Bits.{On}
 use Rattle.rows.specs.Edition.{labels}
 use Rattle.rows.specs.Row.{rowCount}
-use Rattle.rules.specs.Table.{Table, Has, Within, Small, facts}
+use Rattle.rules.specs.Table.{Table, Has, Within, Small, emptyTable, facts}
 use Rattle.rules.specs.Rule.{Rule}
 use Rattle.rules.specs.Told.{Fits}
 use Rattle.rules.specs.Round.{join, leastAbove}
-use Rattle.rules.proofs.Table.{facts-room, facts-within, facts-more}
+use Rattle.rules.proofs.Table.{empty-shaped, facts-room, facts-within, facts-more}
 use Rattle.rules.proofs.Told.{told-label}
 use Rattle.rules.proofs.Join.{join-zero, join-small}
 use Rattle.rules.proofs.Least.{least-only}
@@ -74,6 +74,12 @@ finished {wide} p f {t} {u} {v} s w last =
     let all = reached-on w (last .only) in
     least-only (labels wide) p f (tableOf wide t) (tableOf wide v) (table-shaped wide 0 t s) (table-length wide 0 v ∙ sym (table-length wide 0 t))
     (reached-small p f s all) (reached-keeps all) (used-closed p last) (λ c closed above. in-place p all c closed above)
+
+-- from a table without facts
+pub finished-empty : {wide : Bool} (p : Rule) → Fits (labels wide) p → {t u v : List ℕ} → tableOf wide t ≡ emptyTable (labels wide)
+    → Reached wide 0 (tells wide p) t u → Used wide 0 (tells wide p) u u v false → tableOf wide v ≡ leastAbove (labels wide) p (emptyTable (labels wide))
+finished-empty {wide} p f e w last =
+    finished p f (subst (Small (labels wide)) (sym e) (empty-shaped (labels wide) .small)) w last ∙ ap (leastAbove (labels wide) p) e
 
 -- ---- the number of facts
 

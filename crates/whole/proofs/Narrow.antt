@@ -5,11 +5,14 @@ use mathlib.Core.List.{List, _++_}
 use Prim.Native.Nat.{ℕ, zero, suc, _+_, _-_, _*_, _^_, _≤_, _<_}
 use native.Mathlib.Omega.{arith}
 use lib.ListN.{length, getD, take, drop, take-append-drop, length-drop}
-use lib.Seq.{ext-getD, getD-take, getD-drop, length-take-le}
-use Rattle.rows.specs.Row.{rowCount}
+use lib.Seq.{ext-getD, getD-take, getD-drop, take-take, length-take-le}
+use Rattle.rules.specs.Table.{Table, total, facts}
 use Rattle.sets.specs.Number.{number}
 use Rattle.lent.specs.Table.{view, tableAt}
 use Rattle.lent.proofs.Views.{view-length, view-row}
+use Rattle.uses.specs.Use.{Reached}
+use Rattle.uses.proofs.Use.{reached-length, reached-behind}
+use Rattle.whole.specs.Cleared.{Cleared}
 
 pub number-one : (t : List ℕ) (i : ℕ) → number 1 t i ≡ getD t i 0
 unfolding number
@@ -41,3 +44,18 @@ narrow-whole t u x h e is beyond =
     rest =
         ext-getD 0 (drop 2432 u) (drop 2432 t) (length-drop 2432 u ∙ ap (λ (n : ℕ). n - 2432) e ∙ sym (length-drop 2432 t))
         (λ i q. getD-drop 2432 u i 0 ∙ beyond (2432 + i) (omega arith) ∙ sym (getD-drop 2432 t i 0))
+
+-- the table was cleared, added to in place, and became x
+pub narrow-reached : {T : Table → ℕ → ℕ → Type 0} {s : List ℕ} (t u x : List ℕ) → 2432 ≤ length t → Cleared false t s → Reached false 0 T s u
+    → tableAt false 0 u ≡ x → u ≡ x ++ drop 2432 t
+narrow-reached t u x h clear w is =
+    narrow-whole t u x h (reached-length w ∙ clear .same-length) is (λ i q. reached-behind w i (omega arith) ∙ clear .beyond i (omega arith))
+
+-- ---- what is read of the table can be read of the words
+
+pub narrow-word : (t : List ℕ) (r : ℕ) → r < 2432 → getD (tableAt false 0 t) r 0 ≡ getD t r 0
+narrow-word t r h = let e : 0 + r ≡ r = omega arith in narrow-row 2432 0 t r h ∙ ap (λ (i : ℕ). getD t i 0) e
+
+pub narrow-facts : (t : List ℕ) → 2432 ≤ length t → facts 64 (tableAt false 0 t) ≡ facts 64 t
+unfolding facts
+narrow-facts t h = ap (λ (x : List ℕ). total 64 (take 2432 x)) (narrow-table t h) ∙ ap (total 64) (take-take 2432 2432 t (omega arith))

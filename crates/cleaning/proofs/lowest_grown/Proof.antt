@@ -1,4 +1,4 @@
--- The invariant: no row below r grew. Assumes nothing.
+-- The invariant: no row below `low` grew. Assumes nothing.
 use borrow.Author.Needs.{needs}
 use mathlib.Core.Path.{_≡_}
 use native.Mathlib.Omega.{arith}
@@ -12,10 +12,10 @@ use Rattle.cleaning.proofs.lowest_grown.Statement.{statement}
 use Rattle.cleaning.proofs.lowest_grown.Tie as tie
 
 abbrev Inv-loop : tie.InvT-loop
-Inv-loop t wide n o r₀ r = (r ≤ n) × SameBelow wide t r
+Inv-loop t wide n o low₀ low = (low ≤ n) × SameBelow wide t low
 
 abbrev μ-loop : tie.MeasureT-loop
-μ-loop t wide n o r₀ r = n - r
+μ-loop t wide n o low₀ low = n - low
 
 row-count-requires : tie.Need-row-count-requires Inv-loop μ-loop
 row-count-requires c κs = search needs
@@ -32,7 +32,7 @@ row-requires c κs =
     let count = at .before .before in
     let start = count .before .before in
     let a = start .args in
-    row-read (a .wide) (at .loop .r) (length (a .t .now)) (omega (arith, start .pre)) (omega (arith, count .row-count .ensures .0))
+    row-read (a .wide) (at .loop .low) (length (a .t .now)) (omega (arith, start .pre)) (omega (arith, count .row-count .ensures .0))
 
 row-requires-2 : tie.Need-row-requires-2 Inv-loop μ-loop
 row-requires-2 c κs =
@@ -41,7 +41,7 @@ row-requires-2 c κs =
     let count = words .before in
     let start = count .before .before in
     let a = start .args in
-    row-fits (a .wide) (words .word-count .result) (at .loop .r) (length (a .t .now)) (omega (arith, words .word-count .ensures .0, start .pre))
+    row-fits (a .wide) (words .word-count .result) (at .loop .low) (length (a .t .now)) (omega (arith, words .word-count .ensures .0, start .pre))
     (omega (arith, count .row-count .ensures .0))
 
 is-within-requires : tie.Need-is-within-requires Inv-loop μ-loop
@@ -57,12 +57,12 @@ returns c =
     let count = words .before in
     let known = count .before in
     let a = known .before .args in
-    let inside : at .loop .r < rowCount (labels (a .wide)) = omega (arith, count .row-count .ensures .0) in
-    grown-here (a .wide) (a .t .now) (words .word-count .result) (at .loop .r) (words .word-count .ensures .0) inside (first .row .ensures) (second .row2 .ensures)
+    let inside : at .loop .low < rowCount (labels (a .wide)) = omega (arith, count .row-count .ensures .0) in
+    grown-here (a .wide) (a .t .now) (words .word-count .result) (at .loop .low) (words .word-count .ensures .0) inside (first .row .ensures) (second .row2 .ensures)
     (test .is-within .ensures .0) (λ i. known .shared-slice-known .given i .fits) (c .if1 .taken) (at .loop .inv .1)
 
-add-r : tie.Need-add-r Inv-loop μ-loop
-add-r c = search needs
+add-low : tie.Need-add-low Inv-loop μ-loop
+add-low c = search needs
 
 loop-less : tie.Need-loop-less Inv-loop μ-loop
 loop-less c = search needs
@@ -76,9 +76,9 @@ loop-again c =
     let words = at .before in
     let count = words .before in
     let a = count .before .before .args in
-    let inside : at .loop .r < rowCount (labels (a .wide)) = omega (arith, count .row-count .ensures .0) in
+    let inside : at .loop .low < rowCount (labels (a .wide)) = omega (arith, count .row-count .ensures .0) in
     (search needs,
-     same-next (a .wide) (a .t .now) (words .word-count .result) (at .loop .r) (words .word-count .ensures .0) inside (first .row .ensures) (second .row2 .ensures)
+     same-next (a .wide) (a .t .now) (words .word-count .result) (at .loop .low) (words .word-count .ensures .0) inside (first .row .ensures) (second .row2 .ensures)
      (test .is-within .ensures .0) (c .if1 .left) (at .loop .inv .1))
 
 returns-2 : tie.Need-returns-2 Inv-loop μ-loop
@@ -86,7 +86,7 @@ returns-2 c =
     let at = c .before in
     let count = at .before .before in
     let a = count .before .before .args in
-    grown-nowhere (a .wide) (a .t .now) (at .loop .r) (omega (arith, at .loop .inv .0, count .row-count .ensures .0)) (at .loop .inv .1)
+    grown-nowhere (a .wide) (a .t .now) (at .loop .low) (omega (arith, at .loop .inv .0, count .row-count .ensures .0)) (at .loop .inv .1)
 
 pub lowest-grown-spec : {M : Type 1} → statement M
 lowest-grown-spec =
@@ -101,7 +101,7 @@ lowest-grown-spec =
     row-requires-2
     is-within-requires
     returns
-    add-r
+    add-low
     loop-less
     loop-again
     returns-2)
