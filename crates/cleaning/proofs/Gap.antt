@@ -11,7 +11,7 @@ use Rattle.rows.specs.Row.{rowCount}
 use Rattle.rules.specs.Table.{Table, Has, Small}
 use Rattle.rules.specs.Rule.{Rule}
 use Rattle.rules.specs.Told.{Told, Fits}
-use Rattle.rules.specs.Gap.{Enlarges, gap, Finds}
+use Rattle.rules.specs.Gap.{Enlarges, gap}
 use Rattle.rules.proofs.Gap.{finds-gap}
 use Rattle.format.specs.Sheet.{Sheet}
 use Rattle.verdicts.specs.Check.{cleaned}

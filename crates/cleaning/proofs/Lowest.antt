@@ -2,7 +2,7 @@
 use mathlib.Core.Path.{_≡_, sym, ap, _∙_}
 use mathlib.Core.Bool.{Bool, true, false, not}
 use mathlib.Core.List.{List}
-use Prim.Native.Nat.{ℕ, _+_, _*_, _^_, _≤_, _<_}
+use Prim.Native.Nat.{ℕ, _+_, _^_, _<_}
 use native.Mathlib.Decide.{ℕ-discrete}
 use native.Mathlib.Omega.{arith}
 use borrow.Author.Tests.{eqb-true, eqb-false, not-true, not-false}
@@ -38,11 +38,11 @@ unfolding difference
 more k new old hn ho d =
     let l = trailingZeros k (difference new old) in
     let on : bit (difference new old) l ≡ 1
-          = lowest k (difference new old) (xor-lt k new (bitAnd new old) hn (and-lt k new old hn ho)) (omega (arith, d)) .«in» in
+    = lowest k (difference new old) (xor-lt k new (bitAnd new old) hn (and-lt k new old hn ho)) (omega (arith, d)) .«in» in
     (l, omega (arith, bit-difference new old l, bit-small new l), λ h. omega (arith, bit-difference new old l, on, bit-small new l))
 
 module _ {x y : ℕ} {b : Bool} (wide : Bool) (t : List ℕ) (o r : ℕ) (e : o ≡ wordCount wide) (h : r < rowCount (labels wide))
-  (old : x ≡ number (words wide) t (place wide 0 r)) (new : y ≡ number (words wide) t (place wide o r)) (test : b ≡ eqb (difference y x) 0) where
+    (old : x ≡ number (words wide) t (place wide 0 r)) (new : y ≡ number (words wide) t (place wide o r)) (test : b ≡ eqb (difference y x) 0) where
   first : x ≡ getD (tableAt wide 0 t) r 0
   first = row-is wide 0 t r h old
 

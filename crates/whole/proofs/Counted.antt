@@ -25,7 +25,7 @@ pub counted-next : {v n all : ℕ} (wide : Bool) (t : List ℕ) (r : ℕ) → r 
     → n ≡ countBelow v (labels wide) → total (labels wide) (take r (tableAt wide 0 t)) ≡ all → total (labels wide) (take (r + 1) (tableAt wide 0 t)) ≡ all + n
 counted-next {v} {n} {all} wide t r h is size e =
     let here : countBelow v (labels wide) ≡ countBelow (getD (tableAt wide 0 t) r 0) (labels wide)
-          = ap (λ (x : ℕ). countBelow x (labels wide)) (row-is wide 0 t r h is) in
+    = ap (λ (x : ℕ). countBelow x (labels wide)) (row-is wide 0 t r h is) in
     omega (arith, total-next (labels wide) r (tableAt wide 0 t) (rw (table-length wide 0 t) h), here)
 
 pub counted-all : {all : ℕ} (wide : Bool) (t : List ℕ) (r : ℕ) → r ≡ rowCount (labels wide) → total (labels wide) (take r (tableAt wide 0 t)) ≡ all

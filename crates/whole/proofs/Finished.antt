@@ -8,7 +8,7 @@ use native.Mathlib.Decide.{decLt}
 use native.Mathlib.Nat.{pow-suc}
 use native.Mathlib.Omega.{arith}
 use lib.Count.{trailingZeros}
-use lib.ListN.{length, getD}
+use lib.ListN.{length}
 use lib.Pow.{shr-mono, shl-shr}
 use Rattle.words.specs.Words.{bit}
 use Rattle.words.proofs.Laws.{bit-shifted, lowest}

@@ -1,17 +1,16 @@
 -- Tables in the lent words: their rows are sets of the edition's labels, and where the words are 0 the table is empty. Assumes nothing.
-use mathlib.Core.Path.{_≡_, refl, sym, ap₂, _∙_}
+use mathlib.Core.Path.{_≡_, refl, ap₂, _∙_}
 use mathlib.Core.Bool.{Bool, true, false}
-use mathlib.Core.List.{List, [], _∷_}
+use mathlib.Core.List.{List, _∷_}
 use Prim.Native.Nat.{ℕ, zero, suc, _+_, _*_, _^_, _≤_, _<_}
 use native.Mathlib.Decide.{decLt, ℕ-discrete}
-use native.Mathlib.Nat.{add-zero}
 use native.Mathlib.Omega.{arith}
 use lib.ListN.{length, getD, set, replicate, length-set, List·getD-eq-default}
 use lib.Seq.{getD-set-same, getD-set-other}
 use lib.Pow.{pow-pos}
 use Rattle.rows.specs.Edition.{labels, words}
 use Rattle.rows.specs.Row.{rowCount}
-use Rattle.rules.specs.Table.{Small, Shaped, emptyTable}
+use Rattle.rules.specs.Table.{Small, Shaped}
 use Rattle.sets.specs.Number.{number}
 use Rattle.sets.proofs.Numbers as numbers
 use Rattle.lent.specs.Table.{view, wordCount, tableAt}

@@ -69,9 +69,12 @@ loop-again c =
     let at = row .before .before in
     let count = at .before .before .before .before .before .before in
     let a = count .before .before .before .args in
-    let inside : at .loop .r < rowCount (labels (a .wide)) = omega (arith, count .row-count .ensures .0) in
-    (search needs, search needs, write .write-both2 .ensures .same-length ∙ at .loop .inv .2,
-     cleans-next (a .wide) (a .table .now) (at .loop .r) (at .loop .inv .0) inside (row .row .ensures) (meet .meet .ensures) (write .write-both2 .ensures) (at .loop .inv .3))
+    let inside : at .loop .r < rowCount (labels (a .wide)) = omega (arith, count .row-count .ensures .0) in (
+      search needs,
+      search needs,
+      write .write-both2 .ensures .same-length ∙ at .loop .inv .2,
+      cleans-next (a .wide) (a .table .now) (at .loop .r) (at .loop .inv .0) inside (row .row .ensures) (meet .meet .ensures) (write .write-both2 .ensures) (at .loop .inv .3),
+    )
 
 same-length : tie.Need-same-length Inv-loop μ-loop
 same-length c = search needs

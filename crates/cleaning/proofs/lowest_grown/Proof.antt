@@ -1,6 +1,5 @@
 -- The invariant: no row below `low` grew. Assumes nothing.
 use borrow.Author.Needs.{needs}
-use mathlib.Core.Path.{_≡_}
 use native.Mathlib.Omega.{arith}
 use lib.ListN.{length}
 use Prim.Native.Nat.{_-_, _≤_, _<_}
@@ -76,10 +75,11 @@ loop-again c =
     let words = at .before in
     let count = words .before in
     let a = count .before .before .args in
-    let inside : at .loop .low < rowCount (labels (a .wide)) = omega (arith, count .row-count .ensures .0) in
-    (search needs,
-     same-next (a .wide) (a .t .now) (words .word-count .result) (at .loop .low) (words .word-count .ensures .0) inside (first .row .ensures) (second .row2 .ensures)
-     (test .is-within .ensures .0) (c .if1 .left) (at .loop .inv .1))
+    let inside : at .loop .low < rowCount (labels (a .wide)) = omega (arith, count .row-count .ensures .0) in (
+      search needs,
+      same-next (a .wide) (a .t .now) (words .word-count .result) (at .loop .low) (words .word-count .ensures .0) inside (first .row .ensures) (second .row2 .ensures)
+          (test .is-within .ensures .0) (c .if1 .left) (at .loop .inv .1),
+    )
 
 returns-2 : tie.Need-returns-2 Inv-loop μ-loop
 returns-2 c =

@@ -1,6 +1,6 @@
 -- The forbidden labels in row 1. Assumes nothing.
 use borrow.Author.Needs.{needs}
-use mathlib.Core.Path.{_≡_, ap, _∙_}
+use mathlib.Core.Path.{ap, _∙_}
 use lib.Bits.{bitAnd}
 use lib.ListN.{length}
 use Prim.Native.Nat.{ℕ}
