@@ -17,7 +17,7 @@ use Rattle.rows.specs.Edition.{labels}
 use Rattle.rows.specs.Row.{rowCount}
 use Rattle.rules.specs.Table.{Table, Has, Within, Small, emptyTable, facts}
 use Rattle.rules.specs.Rule.{Rule}
-use Rattle.rules.specs.Told.{Fits}
+use Rattle.rules.specs.Told.{Closed, Fits}
 use Rattle.rules.specs.Round.{join, leastAbove}
 use Rattle.rules.proofs.Table.{empty-shaped, facts-room, facts-within, facts-more}
 use Rattle.rules.proofs.Told.{told-label}
@@ -68,12 +68,16 @@ reached-small {wide} p f s (adds {u} r x before i told j) =
 
 -- ---- the least table
 
+pub reached-least : {wide : Bool} (p : Rule) → Fits (labels wide) p → {t u : List ℕ} → Small (labels wide) (tableOf wide t)
+    → Reached wide 0 (tells wide p) t u → Closed (labels wide) (tableOf wide u) p → tableOf wide u ≡ leastAbove (labels wide) p (tableOf wide t)
+reached-least {wide} p f {t} {u} s w closed =
+    least-only (labels wide) p f (tableOf wide t) (tableOf wide u) (table-shaped wide 0 t s) (table-length wide 0 u ∙ sym (table-length wide 0 t))
+    (reached-small p f s w) (reached-keeps w) closed (λ c h above. in-place p w c h above)
+
+-- a last pass added nothing
 pub finished : {wide : Bool} (p : Rule) → Fits (labels wide) p → {t u v : List ℕ} → Small (labels wide) (tableOf wide t)
     → Reached wide 0 (tells wide p) t u → Used wide 0 (tells wide p) u u v false → tableOf wide v ≡ leastAbove (labels wide) p (tableOf wide t)
-finished {wide} p f {t} {u} {v} s w last =
-    let all = reached-on w (last .only) in
-    least-only (labels wide) p f (tableOf wide t) (tableOf wide v) (table-shaped wide 0 t s) (table-length wide 0 v ∙ sym (table-length wide 0 t))
-    (reached-small p f s all) (reached-keeps all) (used-closed p last) (λ c closed above. in-place p all c closed above)
+finished p f s w last = reached-least p f s (reached-on w (last .only)) (used-closed p last)
 
 -- from a table without facts
 pub finished-empty : {wide : Bool} (p : Rule) → Fits (labels wide) p → {t u v : List ℕ} → tableOf wide t ≡ emptyTable (labels wide)
