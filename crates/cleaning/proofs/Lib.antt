@@ -1,0 +1,4 @@
+-- Laws that other crates cite. Assumes nothing.
+pub mod Copies
+pub mod Lowest
+pub mod Gap

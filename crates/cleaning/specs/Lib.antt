@@ -1,0 +1,2 @@
+-- What the check's two tables hold.
+pub mod Copies

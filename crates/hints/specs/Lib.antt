@@ -1,2 +1,0 @@
--- What the hints promise.
-pub mod Begins

@@ -1,2 +1,0 @@
--- What is kept between passes.
-pub mod Behind

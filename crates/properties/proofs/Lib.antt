@@ -1,3 +1,0 @@
--- Laws of loads, prototypes and stores. Assumes nothing.
-pub mod Loads
-pub mod Stores

@@ -1,3 +1,0 @@
--- Laws of the P line and of records. Assumes nothing.
-pub mod Chains
-pub mod Records

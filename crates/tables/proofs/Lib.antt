@@ -1,3 +1,0 @@
--- Laws that other crates cite. Assumes nothing.
-pub mod Loops
-pub mod Stored

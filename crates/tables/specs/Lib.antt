@@ -1,2 +1,0 @@
--- What the functions on the lent table promise.
-pub mod Sets

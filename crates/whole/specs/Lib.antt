@@ -1,0 +1,2 @@
+-- What clearing a table means.
+pub mod Cleared
