@@ -1,0 +1,65 @@
+-- The guest's statements, by their numbers. Assumes nothing.
+use borrow.Author.Needs.{needs}
+use mathlib.Core.Path.{_≡_, refl}
+use native.Mathlib.Omega.{arith}
+use Prim.Native.Nat.{ℕ}
+use Rattle.rows.specs.declared.Var.{Var}
+use Rattle.rows.specs.declared.Label.{Label}
+use Rattle.passes.specs.Order.{theSite}
+use Rattle.records.specs.declared.Statement.the-variants.{MakeFunction, Load, Store, Call, New, Return, Throw, Catch}
+use Rattle.passes.proofs.Guests.{Said, said-at, three-labels, every-name, last-one}
+use Rattle.passes.proofs.guest.statement.Statement.{statement}
+use Rattle.passes.proofs.guest.statement.Tie as tie
+
+abbrev bag : Var
+bag = theSite .result
+
+abbrev label : Label
+label = theSite .scope
+
+guest-site-requires : tie.Need-guest-site-requires
+guest-site-requires c κs = search needs
+
+guest-site-requires-2 : tie.Need-guest-site-requires-2
+guest-site-requires-2 c κs = search needs
+
+returns : tie.Need-returns
+returns c = said-at 0 (MakeFunction bag label label) (c .match .keys1) (record { rule = λ p. refl; bounded = λ wide. (three-labels wide, three-labels wide) })
+
+returns-2 : tie.Need-returns-2
+returns-2 c = said-at 1 (Load bag bag 128 label) (c .match .keys2) (record { rule = λ p. refl; bounded = λ wide. (every-name, three-labels wide) })
+
+returns-3 : tie.Need-returns-3
+returns-3 c = said-at 2 (Store bag 128 bag) (c .match .keys3) (record { rule = λ p. refl; bounded = λ wide. every-name })
+
+returns-4 : tie.Need-returns-4
+returns-4 c = rw (c .guest-site .ensures) (said-at 3 (Call theSite) (c .before .match .keys4) (record { rule = λ p. refl; bounded = λ wide. three-labels wide }))
+
+returns-5 : tie.Need-returns-5
+returns-5 c = rw (c .guest-site2 .ensures) (said-at 4 (New theSite label) (c .before .match .keys5) (record { rule = λ p. refl; bounded = λ wide. (three-labels wide, three-labels wide) }))
+
+returns-6 : tie.Need-returns-6
+returns-6 c = said-at 5 (Return) (c .match .keys6) (record { rule = λ p. refl; bounded = λ wide. tt })
+
+returns-7 : tie.Need-returns-7
+returns-7 c = said-at 6 (Throw label bag) (c .match .keys7) (record { rule = λ p. refl; bounded = λ wide. three-labels wide })
+
+returns-8 : tie.Need-returns-8
+returns-8 c = 
+    let e = last-one (c .before .args .i) (c .before .pre) (search needs) (search needs) (search needs) (search needs) (search needs) (search needs) (search needs) in
+    said-at 7 (Catch label bag) e (record { rule = λ p. refl; bounded = λ wide. three-labels wide })
+
+pub statement-spec : {M : Type 1} → statement M
+statement-spec =
+    tie.close
+    (tie.spec
+    guest-site-requires
+    guest-site-requires-2
+    returns
+    returns-2
+    returns-3
+    returns-4
+    returns-5
+    returns-6
+    returns-7
+    returns-8)

@@ -1,0 +1,4 @@
+// One pass: every rule of a file once.
+
+mod guest;
+mod walk;
