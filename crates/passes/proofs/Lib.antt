@@ -1,3 +1,4 @@
 pub mod Every
 pub mod Walked
 pub mod Guests
+pub mod Whole

@@ -1,0 +1,2 @@
+-- Laws of the rules that belong to no record. Assumes nothing.
+pub mod Lines

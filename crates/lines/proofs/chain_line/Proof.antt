@@ -1,0 +1,64 @@
+-- One chain: one join. Assumes nothing.
+use borrow.Author.Needs.{needs}
+use lib.ListN.{length}
+use Rattle.sets.specs.Value.{value}
+use Rattle.uses.proofs.Rows.{row-fits, row-read, row-is, read-room}
+use Rattle.lines.proofs.Lines.{chain-applies}
+use Rattle.lines.proofs.chain_line.Statement.{statement}
+use Rattle.lines.proofs.chain_line.Tie as tie
+
+chain-requires : tie.Need-chain-requires
+chain-requires c κs = search needs
+
+row-requires : tie.Need-row-requires
+row-requires c κs =
+    let chain = c .before in
+    let start = chain .before .before in
+    let a = start .args in
+    row-read (a .wide) (chain .chain .result) (length (a .t .now)) (read-room (a .wide) (start .pre .0)) (chain .chain .ensures .1)
+
+told-chains-requires : tie.Need-told-chains-requires
+told-chains-requires c κs = search needs
+
+first-on-requires : tie.Need-first-on-requires
+first-on-requires c κs = search needs
+
+union-requires : tie.Need-union-requires
+union-requires c κs = search needs
+
+join-requires : tie.Need-join-requires
+join-requires c κs =
+    let chain = c .before .before .before .before .before .before .before .before in
+    let start = chain .before .before in
+    let a = start .args in
+    row-fits (a .wide) (a .o) (chain .chain .result) (length (a .t .now)) (start .pre .0 .room) (chain .chain .ensures .1)
+
+same-length : tie.Need-same-length
+same-length c = search needs
+
+returns : tie.Need-returns
+returns c =
+    let join = c .before .before in
+    let union = join .before .before in
+    let first = union .before in
+    let told = first .before in
+    let row = told .before .before .before in
+    let chain = row .before .before in
+    let start = chain .before .before in
+    let a = start .args in
+    λ p. chain-applies (value (a .wide) (first .first-on .result)) (a .kind) (a .l .0) (start .pre .0 .apart) (chain .chain .ensures .0) (chain .chain .ensures .1)
+    (row-is (a .wide) 0 (a .t .now) (chain .chain .result) (chain .chain .ensures .1) (row .row .ensures)) (told .told-chains .ensures p)
+    (first .first-on .ensures) (union .union .ensures) (join .join .ensures)
+
+pub chain-line-spec : {M : Type 1} → statement M
+chain-line-spec =
+    tie.close
+    (tie.spec
+    chain-requires
+    row-requires
+    told-chains-requires
+    first-on-requires
+    union-requires
+    join-requires
+    same-length
+    returns)

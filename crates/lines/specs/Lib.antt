@@ -1,0 +1,2 @@
+-- The chain of a label, by its type.
+pub mod Chain
