@@ -1,0 +1,306 @@
+// The rounds: first over what reads the rows of the last record that grew something, then of the last 16, then all rows that grew.
+ghost use mathlib.Core.Path.{_≡_};
+ghost use Prim.Native.Nat.{_+_, _<_, _≤_};
+ghost use lib.ListN.{length};
+ghost use Rattle.lent.specs.Table.{wordCount};
+use crate::ends::ends_written;
+use crate::ends::returned;
+use crate::links::recent_at;
+use crate::links::recent_count;
+use crate::notes::ALL;
+use crate::notes::CALLEES;
+use crate::notes::CALLEES_GREW;
+use crate::notes::FIRST;
+use crate::notes::FRESH;
+use crate::notes::FUNCTIONS_GREW;
+use crate::notes::GREW;
+use crate::notes::HANDED_GREW;
+use crate::notes::LABELS_GREW;
+use crate::notes::LAST;
+use crate::notes::LINES_DUE;
+use crate::notes::NAMES;
+use crate::notes::NAMES_GREW;
+use crate::notes::NEAR;
+use crate::notes::NEWS;
+use crate::notes::NEWS_GREW;
+use crate::notes::OBJECTS;
+use crate::notes::OBJECTS_GREW;
+use crate::notes::RECENT;
+use crate::notes::SCOPES_GREW;
+use crate::notes::STAGE;
+use crate::notes::THROWN_GREW;
+use crate::notes::VARIABLES_GREW;
+use crate::notes::add;
+use crate::notes::has;
+use crate::notes::keep;
+use crate::notes::low_byte;
+use crate::notes::put;
+use crate::notes::set_at;
+use crate::parts::chain;
+use crate::parts::stored;
+use crate::parts::thrown;
+use rows::Label;
+use rows::Var;
+use sets::Set;
+
+const NEAR_COUNT: usize = 16;
+
+// ---- which round is next
+
+// The stage after this one, 0 where none is left.
+fn stage_after(notes: &[u64; 256]) -> u64 {
+    let stage = notes[STAGE];
+    if stage == 0 {
+        return ALL;
+    }
+    if notes[GREW] == 1 {
+        return if notes[RECENT] == 0 { ALL } else { LAST };
+    }
+    match stage {
+        1 => NEAR,
+        2 => ALL,
+        _ => 0,
+    }
+}
+
+// Nothing grew, so far.
+fn clear(notes: &mut [u64; 256]) {
+    let none = sets::none(true);
+    keep(notes, VARIABLES_GREW, none);
+    keep(notes, CALLEES_GREW, none);
+    keep(notes, OBJECTS_GREW, none);
+    keep(notes, SCOPES_GREW, none);
+    keep(notes, LABELS_GREW, none);
+    keep(notes, NEWS_GREW, none);
+    keep(notes, HANDED_GREW, none);
+    keep(notes, THROWN_GREW, none);
+    keep(notes, FUNCTIONS_GREW, none);
+    notes[NAMES_GREW] = 0;
+}
+
+// ---- callees and objects
+
+// Whether variable v holds one of the labels.
+fn holds(t: &[u64], wide: bool, v: Label, labels: Set) -> bool
+    requires { ⌜ wordCount wide ≤ length (now t) ⌝ }
+{
+    !sets::is_empty(wide, sets::meet(wide, uses::held(t, wide, Var(v.0)), labels))
+}
+
+// Variable v, into the set at a place, if it holds one of the labels.
+fn put_holder(t: &[u64], wide: bool, notes: &mut [u64; 256], place: usize, v: Label, labels: Set)
+    requires { ⌜ (wordCount wide ≤ length (now t)) × (place + 4 ≤ 256) ⌝ }
+{
+    if holds(t, wide, v, labels) {
+        put(notes, place, v.0);
+    }
+}
+
+// Those of the variables that hold one of the labels, into the set at a place.
+fn put_holders(t: &[u64], wide: bool, notes: &mut [u64; 256], place: usize, variables: Set, labels: Set)
+    requires { ⌜ (wordCount wide ≤ length (now t)) × (place + 4 ≤ 256) ⌝ }
+{
+    let mut rest = variables;
+    while !sets::is_empty(true, rest) {
+        let next = sets::next(true, rest);
+        put_holder(t, wide, notes, place, next.label, labels);
+        let after = next.rest;
+        rest = after;
+    }
+}
+
+// The rows of the variables of s, joined.
+fn held_by(t: &[u64], wide: bool, s: Set) -> Set
+    requires { ⌜ wordCount wide ≤ length (now t) ⌝ }
+{
+    let first = uses::gather_word(t, wide, 0, s.a, sets::none(wide));
+    let second = uses::gather_word(t, wide, 64, s.b, first);
+    let third = uses::gather_word(t, wide, 128, s.c, second);
+    uses::gather_word(t, wide, 192, s.d, third)
+}
+
+// Notes whether function f throws more, and what.
+fn note_thrown(t: &[u64], wide: bool, notes: &mut [u64; 256], f: u8)
+    requires { ⌜ wordCount wide ≤ length (now t) ⌝ }
+{
+    if has(notes, SCOPES_GREW, f) {
+        put(notes, FUNCTIONS_GREW, f);
+        add(notes, THROWN_GREW, thrown(t, wide, f));
+    }
+}
+
+// Notes whether function f, which returns these variables, hands back more, and what.
+fn note_handed(t: &[u64], wide: bool, notes: &mut [u64; 256], f: u8, variables: Set)
+    requires { ⌜ wordCount wide ≤ length (now t) ⌝ }
+{
+    let more = sets::meet(true, variables, set_at(notes, VARIABLES_GREW));
+    if !sets::is_empty(true, more) {
+        put(notes, FUNCTIONS_GREW, f);
+        add(notes, HANDED_GREW, held_by(t, wide, more));
+    }
+}
+
+// The callees of functions that hand back or throw more, and what that is.
+fn note_callees(
+    t: &[u64],
+    wide: bool,
+    first: &[u64; 256],
+    second: &[u64; 256],
+    third: &[u64; 256],
+    fourth: &[u64; 256],
+    notes: &mut [u64; 256],
+)
+    requires { ⌜ wordCount wide ≤ length (now t) ⌝ }
+{
+    for l in 0..rows::labels(wide) {
+        let f = low_byte(l);
+        note_thrown(t, wide, notes, f);
+        note_handed(t, wide, notes, f, returned(first, second, third, fourth, Label(f)));
+    }
+    let functions = set_at(notes, FUNCTIONS_GREW);
+    let variables = set_at(notes, CALLEES);
+    put_holders(t, wide, notes, CALLEES_GREW, variables, functions);
+}
+
+// ---- all rows that grew
+
+// Notes whether a row, now s, has another size than when last looked at.
+fn note_row(wide: bool, sizes: &mut [u16; 768], notes: &mut [u64; 256], base: usize, place: usize, v: u8, s: Set)
+    requires { ⌜ (base + 256 ≤ 768) × (place + 4 ≤ 256) ⌝ }
+{
+    let n = crate::notes::short(sets::size(wide, s) as usize);
+    let i = base + crate::notes::place_of(v);
+    if sizes[i] != n {
+        sizes[i] = n;
+        put(notes, place, v);
+    }
+}
+
+fn note_variables(t: &[u64], wide: bool, sizes: &mut [u16; 768], notes: &mut [u64; 256])
+    requires { ⌜ wordCount wide ≤ length (now t) ⌝ }
+{
+    for i in 0..256usize {
+        let v = low_byte(i);
+        note_row(wide, sizes, notes, 0, VARIABLES_GREW, v, uses::held(t, wide, Var(v)));
+    }
+}
+
+fn note_labels(t: &[u64], wide: bool, sizes: &mut [u16; 768], notes: &mut [u64; 256])
+    requires { ⌜ wordCount wide ≤ length (now t) ⌝ }
+{
+    for i in 0..256usize {
+        let l = low_byte(i);
+        note_row(wide, sizes, notes, 256, LABELS_GREW, l, chain(t, wide, l));
+        note_row(wide, sizes, notes, 512, SCOPES_GREW, l, thrown(t, wide, l));
+    }
+}
+
+// Notes what grew since the last such round, and when.
+fn note_all(t: &[u64], wide: bool, sizes: &mut [u16; 768], notes: &mut [u64; 256])
+    requires { ⌜ wordCount wide ≤ length (now t) ⌝ }
+{
+    notes[NAMES_GREW] = notes[NAMES];
+    let news = set_at(notes, NEWS);
+    keep(notes, NEWS_GREW, news);
+    notes[NAMES] = 0;
+    keep(notes, NEWS, sets::none(true));
+    note_variables(t, wide, sizes, notes);
+    note_labels(t, wide, sizes, notes);
+    let variables = set_at(notes, OBJECTS);
+    let labels = set_at(notes, LABELS_GREW);
+    put_holders(t, wide, notes, OBJECTS_GREW, variables, labels);
+}
+
+// ---- what the last records may have written
+
+fn note_written(
+    wide: bool,
+    t: &[u64],
+    file: &[u8],
+    host: &[u64; 16],
+    formals: &[u8; 1792],
+    notes: &mut [u64; 256],
+    at: usize,
+)
+    requires { ⌜ wordCount wide ≤ length (now t) ⌝ }
+{
+    let ends = ends_written(wide, t, file, host, formals, at);
+    let variables = ends.variables;
+    let scopes = ends.scopes;
+    add(notes, VARIABLES_GREW, variables);
+    add(notes, SCOPES_GREW, scopes);
+    notes[NAMES_GREW] = words::join(notes[NAMES_GREW], ends.names);
+    if ends.names != 0 {
+        add(notes, NEWS_GREW, stored(t, wide, file, at));
+    }
+    if ends.chains {
+        let objects = set_at(notes, OBJECTS);
+        keep(notes, OBJECTS_GREW, objects);
+    }
+}
+
+// The same for the last `count` records that grew something.
+fn note_last(
+    wide: bool,
+    t: &[u64],
+    file: &[u8],
+    host: &[u64; 16],
+    formals: &[u8; 1792],
+    recent: &[u16; 512],
+    notes: &mut [u64; 256],
+    count: usize,
+)
+    requires { ⌜ wordCount wide ≤ length (now t) ⌝ }
+{
+    let all = recent_count(notes);
+    let n = if count < all { count } else { all };
+    for back in 0..n {
+        let at = recent_at(recent, notes, back);
+        note_written(wide, t, file, host, formals, notes, at);
+    }
+}
+
+// ---- a round
+
+// Sets up the next round; true says that none is left.
+pub fn begin_round(
+    wide: bool,
+    t: &[u64],
+    file: &[u8],
+    host: &[u64; 16],
+    formals: &[u8; 1792],
+    first: &[u64; 256],
+    second: &[u64; 256],
+    third: &[u64; 256],
+    fourth: &[u64; 256],
+    sizes: &mut [u16; 768],
+    recent: &[u16; 512],
+    notes: &mut [u64; 256],
+) -> bool
+    requires { ⌜ wordCount wide ≤ length (now t) ⌝ }
+{
+    let stage = stage_after(notes);
+    notes[STAGE] = stage;
+    notes[GREW] = 0;
+    if stage == 0 {
+        return true;
+    }
+    clear(notes);
+    if stage == ALL {
+        note_all(t, wide, sizes, notes);
+    } else {
+        let count = if stage == LAST { 1 } else { NEAR_COUNT };
+        note_last(wide, t, file, host, formals, recent, notes, count);
+    }
+    note_callees(t, wide, first, second, third, fourth, notes);
+    start(notes, stage == ALL);
+    false
+}
+
+// The scan begins; the lines come first in a round over all rows, and where variable 1 or something stored grew.
+fn start(notes: &mut [u64; 256], all: bool) {
+    let guest = has(notes, VARIABLES_GREW, 1) | (notes[NAMES_GREW] != 0);
+    notes[FRESH] = 1;
+    notes[FIRST] = if all { 0 } else { 1 };
+    notes[LINES_DUE] = if all | guest { 1 } else { 0 };
+}
