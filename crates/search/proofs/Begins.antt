@@ -3,10 +3,10 @@ use mathlib.Core.Path.{_≡_, sym, ap, _∙_, subst}
 use mathlib.Core.Logic.{_⊎_, inl, inr, ⊎-elim}
 use mathlib.Core.List.{List}
 use Prim.Native.Nat.{ℕ, _+_, _-_, _*_, _/_, _%_, _^_, _≤_, _<_}
-use native.Mathlib.Decide.{ℕ-discrete}
+use native.Mathlib.Decide.{ℕ-discrete, decLt}
 use native.Mathlib.Omega.{arith}
 use lib.ListN.{length, getD, set}
-use lib.Seq.{getD-set-same, getD-set-other}
+use lib.Seq.{getD-set-same, getD-set-other, set-out}
 use Rattle.words.specs.Words.{bit, union}
 use Rattle.words.proofs.Bits.{On, on-union, single-only, empty-off}
 use Rattle.search.specs.Begins.{BeginsAt, BeginsFrom, Begins}
@@ -16,19 +16,23 @@ pub begins-zero : (L : ℕ) (file : List ℕ) (half : ℕ) (starts : List ℕ) �
 begins-zero L file half starts e b i h o = absurd (empty-off i (subst (λ (w : ℕ). On w i) (e b) o))
 
 -- one bit more, q bits from the first
-pub one-bit-more : (starts : List ℕ) (q b i : ℕ) → q / 64 < length starts
+pub one-bit-more : (starts : List ℕ) (q b i : ℕ)
     → bit (getD (set starts (q / 64) (union (getD starts (q / 64) 0) (2 ^ (q % 64)))) b 0) i ≡ 1 → (64 * b + i ≡ q) ⊎ (bit (getD starts b 0) i ≡ 1)
-one-bit-more starts q b i h o = go (ℕ-discrete b (q / 64))
+one-bit-more starts q b i o = choose (decLt (q / 64) (length starts))
   where
     word : ℕ
     word = union (getD starts (q / 64) 0) (2 ^ (q % 64))
 
-    go : Dec (b ≡ q / 64) → (64 * b + i ≡ q) ⊎ (bit (getD starts b 0) i ≡ 1)
-    go (yes e) =
+    go : q / 64 < length starts → Dec (b ≡ q / 64) → (64 * b + i ≡ q) ⊎ (bit (getD starts b 0) i ≡ 1)
+    go h (yes e) =
         ⊎-elim (λ a. inr (subst (λ (k : ℕ). On (getD starts k 0) i) (sym e) a)) (λ a. inl (omega (arith, e, single-only (q % 64) i a)))
         (on-union (getD starts (q / 64) 0) (2 ^ (q % 64)) i
         (subst (λ (w : ℕ). On w i) (ap (λ (k : ℕ). getD (set starts (q / 64) word) k 0) e ∙ getD-set-same starts (q / 64) word 0 h) o))
-    go (no d) = inr (subst (λ (w : ℕ). On w i) (getD-set-other starts (q / 64) b word 0 d) o)
+    go h (no d) = inr (subst (λ (w : ℕ). On w i) (getD-set-other starts (q / 64) b word 0 d) o)
+
+    choose : Dec (q / 64 < length starts) → (64 * b + i ≡ q) ⊎ (bit (getD starts b 0) i ≡ 1)
+    choose (yes h) = go h (ℕ-discrete b (q / 64))
+    choose (no n) = inr (subst (λ (s : List ℕ). On (getD s b 0) i) (set-out starts (q / 64) word (omega (arith, n))) o)
 
 -- with one bit more, that of a record
 pub begins-more : {L : ℕ} {file : List ℕ} {at : ℕ} (half : ℕ) (starts later : List ℕ) → BeginsAt L file at → BeginsFrom L file half starts

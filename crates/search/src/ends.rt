@@ -44,28 +44,25 @@ pub fn feeds(from: Ends, to: Ends) -> bool {
 
 // ---- written
 
-// The seven inputs of a function, joined to what is there so far.
-fn seven(formals: &[u8; 1792], f: Label, all: Set) -> Set {
-    let i = 7 * place_of(f.0);
-    let a = sets::union(true, all, one(formals[i]));
-    let b = sets::union(true, a, one(formals[i + 1]));
-    let c = sets::union(true, b, one(formals[i + 2]));
-    let d = sets::union(true, c, one(formals[i + 3]));
-    let e = sets::union(true, d, one(formals[i + 4]));
-    let g = sets::union(true, e, one(formals[i + 5]));
-    sets::union(true, g, one(formals[i + 6]))
+// Input j of a function, joined to what is there so far.
+fn input(formals: &[u8; 1792], f: Label, j: usize, all: Set) -> Set
+    requires { ⌜ j < 7 ⌝ }
+{
+    sets::union(true, all, one(formals[7 * place_of(f.0) + j]))
 }
 
-// The first input alone.
-fn this(formals: &[u8; 1792], f: Label, all: Set) -> Set {
-    sets::union(true, all, one(formals[7 * place_of(f.0)]))
-}
-
+// The seven inputs of a function; of a prim the first alone.
 fn inputs(formals: &[u8; 1792], prim: bool, f: Label, all: Set) -> Set {
+    let a = input(formals, f, 0, all);
     if prim {
-        return this(formals, f, all);
+        return a;
     }
-    seven(formals, f, all)
+    let b = input(formals, f, 1, a);
+    let c = input(formals, f, 2, b);
+    let d = input(formals, f, 3, c);
+    let e = input(formals, f, 4, d);
+    let g = input(formals, f, 5, e);
+    input(formals, f, 6, g)
 }
 
 // The inputs of the functions of s: of a prim, the first of each.

@@ -90,7 +90,7 @@ pub fn short(x: usize) -> u16 {
 }
 
 pub fn place_of(x: u8) -> usize
-    ensures { λ r. ⌜ r < 256 ⌝ }
+    ensures { λ r. ⌜ (r ≡ x) × (r < 256) ⌝ }
 {
     x as usize
 }

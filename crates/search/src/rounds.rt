@@ -140,6 +140,15 @@ fn note_handed(t: &[u64], wide: bool, notes: &mut [u64; 256], f: u8, variables: 
     }
 }
 
+// The variables that hold a function that hands back or throws more.
+fn note_calling(t: &[u64], wide: bool, notes: &mut [u64; 256])
+    requires { ⌜ wordCount wide ≤ length (now t) ⌝ }
+{
+    let functions = set_at(notes, FUNCTIONS_GREW);
+    let variables = set_at(notes, CALLEES);
+    put_holders(t, wide, notes, CALLEES_GREW, variables, functions);
+}
+
 // The callees of functions that hand back or throw more, and what that is.
 fn note_callees(
     t: &[u64],
@@ -157,9 +166,7 @@ fn note_callees(
         note_thrown(t, wide, notes, f);
         note_handed(t, wide, notes, f, returned(first, second, third, fourth, Label(f)));
     }
-    let functions = set_at(notes, FUNCTIONS_GREW);
-    let variables = set_at(notes, CALLEES);
-    put_holders(t, wide, notes, CALLEES_GREW, variables, functions);
+    note_calling(t, wide, notes);
 }
 
 // ---- all rows that grew
@@ -195,7 +202,16 @@ fn note_labels(t: &[u64], wide: bool, sizes: &mut [u16; 768], notes: &mut [u64; 
     }
 }
 
-// Notes what grew since the last such round, and when.
+// The variables that hold a label whose chain grew.
+fn note_objects(t: &[u64], wide: bool, notes: &mut [u64; 256])
+    requires { ⌜ wordCount wide ≤ length (now t) ⌝ }
+{
+    let variables = set_at(notes, OBJECTS);
+    let labels = set_at(notes, LABELS_GREW);
+    put_holders(t, wide, notes, OBJECTS_GREW, variables, labels);
+}
+
+// Notes what grew since the last such round.
 fn note_all(t: &[u64], wide: bool, sizes: &mut [u16; 768], notes: &mut [u64; 256])
     requires { ⌜ wordCount wide ≤ length (now t) ⌝ }
 {
@@ -206,9 +222,7 @@ fn note_all(t: &[u64], wide: bool, sizes: &mut [u16; 768], notes: &mut [u64; 256
     keep(notes, NEWS, sets::none(true));
     note_variables(t, wide, sizes, notes);
     note_labels(t, wide, sizes, notes);
-    let variables = set_at(notes, OBJECTS);
-    let labels = set_at(notes, LABELS_GREW);
-    put_holders(t, wide, notes, OBJECTS_GREW, variables, labels);
+    note_objects(t, wide, notes);
 }
 
 // ---- what the last records may have written
@@ -239,6 +253,12 @@ fn note_written(
     }
 }
 
+fn least(x: usize, y: usize) -> usize
+    ensures { λ r. ⌜ r ≤ y ⌝ }
+{
+    if x < y { x } else { y }
+}
+
 // The same for the last `count` records that grew something.
 fn note_last(
     wide: bool,
@@ -252,9 +272,7 @@ fn note_last(
 )
     requires { ⌜ wordCount wide ≤ length (now t) ⌝ }
 {
-    let all = recent_count(notes);
-    let n = if count < all { count } else { all };
-    for back in 0..n {
+    for back in 0..least(count, recent_count(notes)) {
         let at = recent_at(recent, notes, back);
         note_written(wide, t, file, host, formals, notes, at);
     }

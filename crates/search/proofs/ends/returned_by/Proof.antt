@@ -1,54 +1,42 @@
+-- A turn for each function. Assumes nothing.
+use borrow.Author.Needs.{needs}
+use Rattle.sets.specs.Value.{value}
+use Rattle.sets.proofs.Values.{some-left}
 use Rattle.search.proofs.ends.returned_by.Statement.{statement}
 use Rattle.search.proofs.ends.returned_by.Tie as tie
-use Rattle.search.proofs.ends.returned_by.Reads as reads
-use Rattle.search.proofs.ends.returned_by.Lts as lts
-use Rattle.search.proofs.ends.returned.Reads as returned-reads
-use Rattle.sets.proofs.is_empty.Reads as is-empty-reads
-use Rattle.sets.proofs.next.Reads as next-reads
-use Rattle.sets.proofs.none.Reads as none-reads
-use Rattle.sets.proofs.union.Reads as union-reads
 
 abbrev Inv-loop : tie.InvT-loop
-Inv-loop wide first second third fourth all₀ rest₀ all rest = ?
+Inv-loop wide first second third fourth all₀ rest₀ all rest = Unit {0}
 
 abbrev μ-loop : tie.MeasureT-loop
-μ-loop wide first second third fourth all₀ rest₀ all rest = ?
+μ-loop wide first second third fourth all₀ rest₀ all rest = value wide rest
 
--- src/ends.rt:180:9
 none-requires : tie.Need-none-requires Inv-loop μ-loop
-none-requires c κs = ?
+none-requires c κs = search needs
 
--- src/ends.rt:182:5
 loop-holds : tie.Need-loop-holds Inv-loop μ-loop
-loop-holds c = ?
+loop-holds c = search needs
 
--- src/ends.rt:182:12
 is-empty-requires : tie.Need-is-empty-requires Inv-loop μ-loop
-is-empty-requires c κs = ?
+is-empty-requires c κs = search needs
 
--- src/ends.rt:183:13
 next-requires : tie.Need-next-requires Inv-loop μ-loop
-next-requires c κs = ?
+next-requires c κs = some-left _ (c .before .is-empty .ensures) (c .if1 .taken)
 
--- src/ends.rt:184:13
 returned-requires : tie.Need-returned-requires Inv-loop μ-loop
-returned-requires c κs = ?
+returned-requires c κs = search needs
 
--- src/ends.rt:185:9
 union-requires : tie.Need-union-requires Inv-loop μ-loop
-union-requires c κs = ?
+union-requires c κs = search needs
 
--- src/ends.rt:182:5
 loop-less : tie.Need-loop-less Inv-loop μ-loop
-loop-less c = ?
+loop-less c = search needs
 
--- src/ends.rt:182:5
 loop-again : tie.Need-loop-again Inv-loop μ-loop
-loop-again c = ?
+loop-again c = search needs
 
--- src/ends.rt:172:1
 returns : tie.Need-returns Inv-loop μ-loop
-returns c = ?
+returns c = search needs
 
 pub returned-by-spec : {M : Type 1} → statement M
 returned-by-spec =

@@ -1,46 +1,42 @@
+-- One bit more, in one word. Assumes nothing.
 use borrow.Author.Needs.{needs}
+use mathlib.Core.Logic.{inl, inr, ⊎-elim}
+use native.Mathlib.Omega.{arith}
+use Prim.Native.Nat.{_-_}
+use Rattle.search.proofs.Begins.{one-bit-more}
 use Rattle.search.proofs.index.set_start.Statement.{statement}
 use Rattle.search.proofs.index.set_start.Tie as tie
-use Rattle.search.proofs.index.set_start.Reads as reads
-use Rattle.search.proofs.index.set_start.Lts as lts
-use Rattle.words.proofs.join.Reads as join-reads
-use Rattle.words.proofs.single.Reads as single-reads
 
--- src/index.rt:84:9
 returns : tie.Need-returns
-returns c = ?
+returns c = λ b i h o. inr o
 
--- src/index.rt:88:9
 returns-2 : tie.Need-returns-2
-returns-2 c = ?
+returns-2 c = λ b i h o. inr o
 
--- src/index.rt:91:29
 mul-join : tie.Need-mul-join
 mul-join c = search needs
 
--- src/index.rt:91:29
 element-copy-out-join : tie.Need-element-copy-out-join
 element-copy-out-join c = search needs
 
--- src/index.rt:91:40
 single-requires : tie.Need-single-requires
 single-requires c κs = search needs
 
--- src/index.rt:91:17
 join-requires : tie.Need-join-requires
 join-requires c κs = search needs
 
--- src/index.rt:91:5
 mul-starts : tie.Need-mul-starts
 mul-starts c = search needs
 
--- src/index.rt:91:5
 element-write-starts : tie.Need-element-write-starts
 element-write-starts c = search needs
 
--- src/index.rt:80:1
 returns-3 : tie.Need-returns-3
-returns-3 c = ?
+returns-3 c =
+    let start = c .before .before .before .before .before in
+    let a = start .args in
+    let q = a .at - a .half in
+    λ b i h o. ⊎-elim (λ e. inl (omega (arith, e, c .before .before .before .before .if1 .left))) (λ w. inr w) (one-bit-more (a .starts .now) q b i (rw (c .join .ensures, c .before .single .ensures) at o))
 
 pub set-start-spec : {M : Type 1} → statement M
 set-start-spec =

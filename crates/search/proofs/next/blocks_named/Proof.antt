@@ -1,51 +1,40 @@
+-- A turn for each name. Assumes nothing.
+use borrow.Author.Needs.{needs}
 use Rattle.search.proofs.next.blocks_named.Statement.{statement}
 use Rattle.search.proofs.next.blocks_named.Tie as tie
-use Rattle.search.proofs.next.blocks_named.Reads as reads
-use Rattle.search.proofs.next.blocks_named.Lts as lts
-use Rattle.words.proofs.join.Reads as join-reads
-use Rattle.words.proofs.next.Reads as next-reads
 
 abbrev Inv-loop : tie.InvT-loop
-Inv-loop notes names marks₀ rest₀ marks rest = ?
+Inv-loop notes names marks₀ rest₀ marks rest = Unit {0}
 
 abbrev μ-loop : tie.MeasureT-loop
-μ-loop notes names marks₀ rest₀ marks rest = ?
+μ-loop notes names marks₀ rest₀ marks rest = rest
 
--- src/next.rt:212:5
 loop-holds : tie.Need-loop-holds Inv-loop μ-loop
-loop-holds c = ?
+loop-holds c = search needs
 
--- src/next.rt:213:13
 next-requires : tie.Need-next-requires Inv-loop μ-loop
-next-requires c κs = ?
+next-requires c κs = search needs
 
--- src/next.rt:214:42
 add-join : tie.Need-add-join Inv-loop μ-loop
-add-join c = ?
+add-join c = search needs
 
--- src/next.rt:214:36
 mul-join : tie.Need-mul-join Inv-loop μ-loop
-mul-join c = ?
+mul-join c = search needs
 
--- src/next.rt:214:36
 element-copy-out-join : tie.Need-element-copy-out-join Inv-loop μ-loop
-element-copy-out-join c = ?
+element-copy-out-join c = search needs
 
--- src/next.rt:214:9
 join-requires : tie.Need-join-requires Inv-loop μ-loop
-join-requires c κs = ?
+join-requires c κs = search needs
 
--- src/next.rt:212:5
 loop-less : tie.Need-loop-less Inv-loop μ-loop
-loop-less c = ?
+loop-less c = search needs
 
--- src/next.rt:212:5
 loop-again : tie.Need-loop-again Inv-loop μ-loop
-loop-again c = ?
+loop-again c = search needs
 
--- src/next.rt:209:1
 returns : tie.Need-returns Inv-loop μ-loop
-returns c = ?
+returns c = search needs
 
 pub blocks-named-spec : {M : Type 1} → statement M
 blocks-named-spec =

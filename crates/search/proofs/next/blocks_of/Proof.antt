@@ -1,57 +1,46 @@
+-- A turn for each byte. Assumes nothing.
+use borrow.Author.Needs.{needs}
+use mathlib.Core.Bool.{true}
+use Rattle.sets.specs.Value.{value}
+use Rattle.sets.proofs.Values.{some-left}
 use Rattle.search.proofs.next.blocks_of.Statement.{statement}
 use Rattle.search.proofs.next.blocks_of.Tie as tie
-use Rattle.search.proofs.next.blocks_of.Reads as reads
-use Rattle.search.proofs.next.blocks_of.Lts as lts
-use Rattle.search.proofs.notes.place_of.Reads as place-of-reads
-use Rattle.sets.proofs.is_empty.Reads as is-empty-reads
-use Rattle.sets.proofs.next.Reads as next-reads
-use Rattle.words.proofs.join.Reads as join-reads
 
 abbrev Inv-loop : tie.InvT-loop
-Inv-loop index marks₀ rest₀ marks rest = ?
+Inv-loop index marks₀ rest₀ marks rest = Unit {0}
 
 abbrev μ-loop : tie.MeasureT-loop
-μ-loop index marks₀ rest₀ marks rest = ?
+μ-loop index marks₀ rest₀ marks rest = value true rest
 
--- src/next.rt:199:5
 loop-holds : tie.Need-loop-holds Inv-loop μ-loop
-loop-holds c = ?
+loop-holds c = search needs
 
--- src/next.rt:199:12
 is-empty-requires : tie.Need-is-empty-requires Inv-loop μ-loop
-is-empty-requires c κs = ?
+is-empty-requires c κs = search needs
 
--- src/next.rt:200:13
 next-requires : tie.Need-next-requires Inv-loop μ-loop
-next-requires c κs = ?
+next-requires c κs = some-left _ (c .before .is-empty .ensures) (c .if1 .taken)
 
--- src/next.rt:201:42
 place-of-requires : tie.Need-place-of-requires Inv-loop μ-loop
-place-of-requires c κs = ?
+place-of-requires c κs = search needs
 
--- src/next.rt:201:36
 mul-join : tie.Need-mul-join Inv-loop μ-loop
-mul-join c = ?
+mul-join c = search needs
 
--- src/next.rt:201:36
 element-copy-out-join : tie.Need-element-copy-out-join Inv-loop μ-loop
-element-copy-out-join c = ?
+element-copy-out-join c = search needs
 
--- src/next.rt:201:9
 join-requires : tie.Need-join-requires Inv-loop μ-loop
-join-requires c κs = ?
+join-requires c κs = search needs
 
--- src/next.rt:199:5
 loop-less : tie.Need-loop-less Inv-loop μ-loop
-loop-less c = ?
+loop-less c = search needs
 
--- src/next.rt:199:5
 loop-again : tie.Need-loop-again Inv-loop μ-loop
-loop-again c = ?
+loop-again c = search needs
 
--- src/next.rt:196:1
 returns : tie.Need-returns Inv-loop μ-loop
-returns c = ?
+returns c = search needs
 
 pub blocks-of-spec : {M : Type 1} → statement M
 blocks-of-spec =

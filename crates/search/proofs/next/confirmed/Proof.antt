@@ -1,57 +1,51 @@
+-- A position below 32,768 is answered only where its bit is. Assumes nothing.
 use borrow.Author.Needs.{needs}
+use mathlib.Core.Path.{sym, _∙_}
+use native.Mathlib.Omega.{arith}
+use Prim.Native.Nat.{_-_}
+use Rattle.search.proofs.Begins.{begins-low, begins-high}
 use Rattle.search.proofs.next.confirmed.Statement.{statement}
 use Rattle.search.proofs.next.confirmed.Tie as tie
-use Rattle.search.proofs.next.confirmed.Reads as reads
-use Rattle.search.proofs.next.confirmed.Lts as lts
-use Rattle.words.proofs.has.Reads as has-reads
 
--- src/next.rt:58:9
 returns : tie.Need-returns
-returns c = ?
+returns c = λ L file b h. absurd (omega (arith, h))
 
--- src/next.rt:61:23
 mul-has : tie.Need-mul-has
 mul-has c = search needs
 
--- src/next.rt:61:23
 element-copy-out-has : tie.Need-element-copy-out-has
 element-copy-out-has c = search needs
 
--- src/next.rt:61:12
 has-requires : tie.Need-has-requires
 has-requires c κs = search needs
 
--- src/next.rt:62:13
 returns-2 : tie.Need-returns-2
-returns-2 c = ?
+returns-2 c =
+    let a = c .before .before .before .before .before .args in
+    λ L file b h. begins-low L file (a .low .now) (a .high .now) (a .at) b (c .before .before .before .if2 .taken) (sym (c .before .has .ensures) ∙ c .if3 .taken)
 
--- src/next.rt:64:9
 returns-3 : tie.Need-returns-3
-returns-3 c = ?
+returns-3 c = λ L file b h. absurd (omega (arith, h))
 
--- src/next.rt:68:23
 mul-has-2 : tie.Need-mul-has-2
 mul-has-2 c = search needs
 
--- src/next.rt:68:23
 element-copy-out-has-2 : tie.Need-element-copy-out-has-2
 element-copy-out-has-2 c = search needs
 
--- src/next.rt:68:12
 has-requires-2 : tie.Need-has-requires-2
 has-requires-2 c κs = search needs
 
--- src/next.rt:69:13
 returns-4 : tie.Need-returns-4
-returns-4 c = ?
+returns-4 c =
+    let a = c .before .before .before .before .before .before .args in
+    λ L file b h. begins-high L file (a .low .now) (a .high .now) (a .at) (a .at - 16384) b (omega (arith, c .before .before .before .before .if2 .left)) (omega (arith, h)) (sym (c .before .has2 .ensures) ∙ c .if5 .taken)
 
--- src/next.rt:54:1
 returns-5 : tie.Need-returns-5
-returns-5 c = ?
+returns-5 c = λ L file b h. absurd (omega (arith, h))
 
--- src/next.rt:54:1
 returns-6 : tie.Need-returns-6
-returns-6 c = ?
+returns-6 c = λ L file b h. absurd (omega (arith, h))
 
 pub confirmed-spec : {M : Type 1} → statement M
 confirmed-spec =

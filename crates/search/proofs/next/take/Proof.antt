@@ -1,85 +1,64 @@
+-- A turn for each position that waits. Assumes nothing.
+use borrow.Author.Needs.{needs}
 use Rattle.search.proofs.next.take.Statement.{statement}
 use Rattle.search.proofs.next.take.Tie as tie
-use Rattle.search.proofs.next.take.Reads as reads
-use Rattle.search.proofs.next.take.Lts as lts
-use Rattle.search.proofs.next.confirmed.Reads as confirmed-reads
-use Rattle.search.proofs.next.leave.Reads as leave-reads
-use Rattle.search.proofs.notes.long.Reads as long-reads
-use Rattle.search.proofs.notes.number.Reads as number-reads
 
 abbrev Inv-loop : tie.InvT-loop
-Inv-loop low high queue notes₀ left₀ at₀ notes left at = ?
+Inv-loop low high queue notes₀ left₀ at₀ notes left at = Unit {0}
 
 abbrev μ-loop : tie.MeasureT-loop
-μ-loop low high queue notes₀ left₀ at₀ notes left at = ?
+μ-loop low high queue notes₀ left₀ at₀ notes left at = left
 
--- src/next.rt:84:27
 element-copy-out-number : tie.Need-element-copy-out-number Inv-loop μ-loop
-element-copy-out-number c = ?
+element-copy-out-number c = search needs
 
--- src/next.rt:84:9
 number-requires : tie.Need-number-requires Inv-loop μ-loop
-number-requires c κs = ?
+number-requires c κs = search needs
 
--- src/next.rt:85:25
 element-copy-out-number-2 : tie.Need-element-copy-out-number-2 Inv-loop μ-loop
-element-copy-out-number-2 c = ?
+element-copy-out-number-2 c = search needs
 
--- src/next.rt:85:9
 number-requires-2 : tie.Need-number-requires-2 Inv-loop μ-loop
-number-requires-2 c κs = ?
+number-requires-2 c κs = search needs
 
--- src/next.rt:86:5
 loop-holds : tie.Need-loop-holds Inv-loop μ-loop
-loop-holds c = ?
+loop-holds c = search needs
 
--- src/next.rt:87:47
 mul-long : tie.Need-mul-long Inv-loop μ-loop
-mul-long c = ?
+mul-long c = search needs
 
--- src/next.rt:87:47
 element-copy-out-long : tie.Need-element-copy-out-long Inv-loop μ-loop
-element-copy-out-long c = ?
+element-copy-out-long c = search needs
 
--- src/next.rt:87:42
 long-requires : tie.Need-long-requires Inv-loop μ-loop
-long-requires c κs = ?
+long-requires c κs = search needs
 
--- src/next.rt:87:13
 confirmed-requires : tie.Need-confirmed-requires Inv-loop μ-loop
-confirmed-requires c κs = ?
+confirmed-requires c κs = search needs
 
--- src/next.rt:88:14
 add-at : tie.Need-add-at Inv-loop μ-loop
-add-at c = ?
+add-at c = search needs
 
--- src/next.rt:89:9
 sub-left : tie.Need-sub-left Inv-loop μ-loop
-sub-left c = ?
+sub-left c = search needs
 
--- src/next.rt:91:13
 leave-requires : tie.Need-leave-requires Inv-loop μ-loop
-leave-requires c κs = ?
+leave-requires c κs = search needs
 
--- src/next.rt:92:13
 returns : tie.Need-returns Inv-loop μ-loop
-returns c = ?
+returns c = search needs
 
--- src/next.rt:86:5
 loop-less : tie.Need-loop-less Inv-loop μ-loop
-loop-less c = ?
+loop-less c = search needs
 
--- src/next.rt:86:5
 loop-again : tie.Need-loop-again Inv-loop μ-loop
-loop-again c = ?
+loop-again c = search needs
 
--- src/next.rt:95:5
 leave-requires-2 : tie.Need-leave-requires-2 Inv-loop μ-loop
-leave-requires-2 c κs = ?
+leave-requires-2 c κs = search needs
 
--- src/next.rt:83:1
 returns-2 : tie.Need-returns-2 Inv-loop μ-loop
-returns-2 c = ?
+returns-2 c = search needs
 
 pub take-spec : {M : Type 1} → statement M
 take-spec =
