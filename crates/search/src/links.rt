@@ -89,11 +89,13 @@ pub fn recent_count(notes: &[u64; 256]) -> usize
 
 // ---- links
 
-// The place of a position's links; a second one takes what does not fit.
+// The place of a position's links, a hash; a second one takes what does not fit.
 fn slot(at: usize) -> usize
     ensures { λ r. ⌜ r < 512 ⌝ }
 {
-    (at % 65536) * 2654435769 % 4294967296 / 8388608
+    let spread = (at % 65536) * 173961102589770;
+    let mixed = (spread ^ (spread >> 29)) % 4294967296;
+    (mixed * 3210233709) % 4294967296 / 8388608
 }
 
 fn second_slot(i: usize) -> usize
