@@ -116,12 +116,7 @@ pub fn ends_written(
         };
     }
     let kind = byte(file, at, 0);
-    let called = inputs_of(
-        formals,
-        wide,
-        kind == 26,
-        callees(t, wide, file, host, at),
-    );
+    let called = inputs_of(formals, wide, kind == 26, callees(t, wide, file, host, at));
     let all = sets::union(true, own_written(file, at), called);
     Ends {
         variables: sets::without(true, all, one(0)),

@@ -69,7 +69,13 @@ fn entries(file: &[u8], at: usize, kind: u8) -> Set {
 }
 
 // Enters what the record at `at` reads.
-fn enter_reads(file: &[u8], host: &[u64; 16], index: &mut [u64; 256], notes: &mut [u64; 256], at: usize) {
+fn enter_reads(
+    file: &[u8],
+    host: &[u64; 16],
+    index: &mut [u64; 256],
+    notes: &mut [u64; 256],
+    at: usize,
+) {
     let block = words::single(at / 512 % 64);
     enter_bytes(index, entries(file, at, byte(file, at, 0)), block);
     enter_names(notes, names_read(file, host, at), block);

@@ -3,9 +3,11 @@
 // what it misses costs time, since a whole pass finds it.
 
 pub mod ends;
+pub mod grown;
 pub mod index;
 pub mod links;
 pub mod next;
 pub mod notes;
 pub mod parts;
 pub mod rounds;
+pub mod wakes;

@@ -14,8 +14,8 @@ use crate::notes::LINES;
 use crate::notes::MARKS;
 use crate::notes::NAMES;
 use crate::notes::NEWS;
-use crate::notes::QUEUED;
 use crate::notes::QUEUE_AT;
+use crate::notes::QUEUED;
 use crate::notes::RECENT;
 use crate::notes::RECENT_AT;
 use crate::notes::WORD;
@@ -84,7 +84,11 @@ pub fn recent_count(notes: &[u64; 256]) -> usize
     ensures { λ r. ⌜ r ≤ 512 ⌝ }
 {
     let count = number(notes[RECENT]);
-    if count < RECENT_PLACES { count } else { RECENT_PLACES }
+    if count < RECENT_PLACES {
+        count
+    } else {
+        RECENT_PLACES
+    }
 }
 
 // ---- links
@@ -108,7 +112,11 @@ fn second_slot(i: usize) -> usize
 fn links_at(links_low: &[u64; 256], links_high: &[u64; 256], i: usize) -> u64
     requires { ⌜ i < 512 ⌝ }
 {
-    if i < 256 { links_low[i] } else { links_high[i - 256] }
+    if i < 256 {
+        links_low[i]
+    } else {
+        links_high[i - 256]
+    }
 }
 
 fn write_links(links_low: &mut [u64; 256], links_high: &mut [u64; 256], i: usize, links: u64)
@@ -131,12 +139,19 @@ fn follow(
 ) {
     let i = slot(at);
     enqueue_links(queue, notes, links_at(links_low, links_high, i));
-    enqueue_links(queue, notes, links_at(links_low, links_high, second_slot(i)));
+    enqueue_links(
+        queue,
+        notes,
+        links_at(links_low, links_high, second_slot(i)),
+    );
 }
 
 // Whether a word has a link.
 fn linked(links: u64, link: u64) -> bool {
-    (links % 65536 == link) | ((links >> 16) % 65536 == link) | ((links >> 32) % 65536 == link) | (links >> 48 == link)
+    (links % 65536 == link)
+        | ((links >> 16) % 65536 == link)
+        | ((links >> 32) % 65536 == link)
+        | (links >> 48 == link)
 }
 
 // Makes a link from one position to another.
@@ -181,7 +196,14 @@ fn cause(
 // ---- what grew
 
 // Notes what the record at `at` stored.
-fn note_stored(wide: bool, t: &[u64], file: &[u8], host: &[u64; 16], notes: &mut [u64; 256], at: usize)
+fn note_stored(
+    wide: bool,
+    t: &[u64],
+    file: &[u8],
+    host: &[u64; 16],
+    notes: &mut [u64; 256],
+    at: usize,
+)
     requires { ⌜ wordCount wide ≤ length (now t) ⌝ }
 {
     let names = names_written(file, host, at);
@@ -197,7 +219,13 @@ fn end_scan(notes: &mut [u64; 256]) {
 }
 
 // Learns from a find of the scan: a link from its cause. A round that looks for one find ends.
-fn learn(links_low: &mut [u64; 256], links_high: &mut [u64; 256], notes: &mut [u64; 256], from: usize, at: usize) {
+fn learn(
+    links_low: &mut [u64; 256],
+    links_high: &mut [u64; 256],
+    notes: &mut [u64; 256],
+    from: usize,
+    at: usize,
+) {
     if from <= LINES {
         link(links_low, links_high, from, at);
     }

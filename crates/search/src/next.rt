@@ -12,14 +12,12 @@ use crate::notes::CALLEES_GREW;
 use crate::notes::END;
 use crate::notes::FRESH;
 use crate::notes::FROM_QUEUE;
-use crate::notes::HANDED_GREW;
 use crate::notes::LABELS_GREW;
 use crate::notes::LINES;
 use crate::notes::LINES_DUE;
 use crate::notes::MARKS;
 use crate::notes::NAMED;
 use crate::notes::NAMES_GREW;
-use crate::notes::NEWS_GREW;
 use crate::notes::OBJECTS_GREW;
 use crate::notes::QUEUED;
 use crate::notes::QUEUE_AT;
@@ -27,16 +25,12 @@ use crate::notes::SCOPES_GREW;
 use crate::notes::THROWN_GREW;
 use crate::notes::VARIABLES_GREW;
 use crate::notes::WORD;
-use crate::notes::has;
 use crate::notes::long;
 use crate::notes::number;
 use crate::notes::place_of;
 use crate::notes::set_at;
 use crate::notes::word;
-use crate::parts::byte;
-use crate::parts::held;
-use crate::parts::names_read;
-use crate::parts::thrown;
+use crate::wakes::wakes;
 use sets::Set;
 
 // Where records begin in the w-th 64 bytes.
@@ -96,100 +90,6 @@ fn take(low: &[u64; 256], high: &[u64; 256], queue: &[u16; 1024], notes: &mut [u
     END
 }
 
-// ---- whether a record is worth a look
-
-// Whether byte j of the record is in the set at a place.
-fn among(file: &[u8], notes: &[u64; 256], place: usize, at: usize, j: usize) -> bool
-    requires { ⌜ place + 4 ≤ 256 ⌝ }
-{
-    has(notes, place, byte(file, at, j))
-}
-
-// Whether the variable of byte j grew.
-fn grew(file: &[u8], notes: &[u64; 256], at: usize, j: usize) -> bool {
-    among(file, notes, VARIABLES_GREW, at, j)
-}
-
-// Whether something was stored under a name under which the record looks.
-fn names_grew(file: &[u8], host: &[u64; 16], notes: &[u64; 256], at: usize) -> bool {
-    words::meet(notes[NAMES_GREW], names_read(file, host, at)) != 0
-}
-
-// Whether a load's variable lacks something that was stored.
-fn lacks_news(wide: bool, t: &[u64], file: &[u8], notes: &[u64; 256], at: usize) -> bool
-    requires { ⌜ wordCount wide ≤ length (now t) ⌝ }
-{
-    !sets::is_within(wide, set_at(notes, NEWS_GREW), held(t, wide, file, at, 2))
-}
-
-// Whether a scope lacks something that is thrown.
-fn lacks_thrown(wide: bool, t: &[u64], file: &[u8], notes: &[u64; 256], at: usize) -> bool
-    requires { ⌜ wordCount wide ≤ length (now t) ⌝ }
-{
-    !sets::is_within(wide, set_at(notes, THROWN_GREW), thrown(t, wide, byte(file, at, 1)))
-}
-
-fn lacks_handed(wide: bool, t: &[u64], file: &[u8], notes: &[u64; 256], at: usize) -> bool
-    requires { ⌜ wordCount wide ≤ length (now t) ⌝ }
-{
-    !sets::is_within(wide, set_at(notes, HANDED_GREW), held(t, wide, file, at, 2))
-}
-
-fn wakes_load(wide: bool, t: &[u64], file: &[u8], host: &[u64; 16], notes: &[u64; 256], at: usize) -> bool
-    requires { ⌜ wordCount wide ≤ length (now t) ⌝ }
-{
-    if grew(file, notes, at, 3) | among(file, notes, OBJECTS_GREW, at, 3) | among(file, notes, LABELS_GREW, at, 5) {
-        return true;
-    }
-    if names_grew(file, host, notes, at) {
-        return lacks_news(wide, t, file, notes, at);
-    }
-    false
-}
-
-// A call, or a new: its callee or an input grew, or what its functions hand back or throw.
-fn wakes_call(wide: bool, t: &[u64], file: &[u8], notes: &[u64; 256], at: usize) -> bool
-    requires { ⌜ wordCount wide ≤ length (now t) ⌝ }
-{
-    let first = grew(file, notes, at, 3) | grew(file, notes, at, 4) | grew(file, notes, at, 5) | grew(file, notes, at, 6);
-    let second = grew(file, notes, at, 7) | grew(file, notes, at, 8) | grew(file, notes, at, 9) | grew(file, notes, at, 10);
-    if first | second {
-        return true;
-    }
-    if among(file, notes, CALLEES_GREW, at, 3) {
-        return lacks_handed(wide, t, file, notes, at) | lacks_thrown(wide, t, file, notes, at);
-    }
-    false
-}
-
-// Whether the record at `at` is worth a look.
-fn wakes(wide: bool, t: &[u64], file: &[u8], host: &[u64; 16], notes: &[u64; 256], at: usize) -> bool
-    requires { ⌜ wordCount wide ≤ length (now t) ⌝ }
-{
-    match byte(file, at, 0) {
-        5 => grew(file, notes, at, 1) | names_grew(file, host, notes, at),
-        6 => grew(file, notes, at, 1) | has(notes, VARIABLES_GREW, 1),
-        16 => grew(file, notes, at, 3),
-        17 => wakes_load(wide, t, file, host, notes, at),
-        18 => grew(file, notes, at, 2) | grew(file, notes, at, 4),
-        21 => wakes_call(wide, t, file, notes, at),
-        22 => wakes_call(wide, t, file, notes, at) | wakes_new(file, host, notes, at),
-        24 => grew(file, notes, at, 2),
-        25 => among(file, notes, SCOPES_GREW, at, 1),
-        26 => wakes_prim(file, host, notes, at) | lacks_thrown(wide, t, file, notes, at),
-        _ => false,
-    }
-}
-
-// What wakes a new beside what wakes a call.
-fn wakes_new(file: &[u8], host: &[u64; 16], notes: &[u64; 256], at: usize) -> bool {
-    grew(file, notes, at, 11) | among(file, notes, OBJECTS_GREW, at, 3) | names_grew(file, host, notes, at)
-}
-
-fn wakes_prim(file: &[u8], host: &[u64; 16], notes: &[u64; 256], at: usize) -> bool {
-    grew(file, notes, at, 2) | among(file, notes, OBJECTS_GREW, at, 2) | names_grew(file, host, notes, at)
-}
-
 // ---- the blocks of a round
 
 // The blocks in which a byte of s is read.
@@ -220,7 +120,11 @@ fn blocks_named(notes: &[u64; 256], names: u64) -> u64 {
 
 // The bytes that grew in some role.
 fn bytes_grew(notes: &[u64; 256]) -> Set {
-    let values = sets::union(true, set_at(notes, VARIABLES_GREW), set_at(notes, CALLEES_GREW));
+    let values = sets::union(
+        true,
+        set_at(notes, VARIABLES_GREW),
+        set_at(notes, CALLEES_GREW),
+    );
     let labels = sets::union(true, set_at(notes, SCOPES_GREW), set_at(notes, LABELS_GREW));
     let objects = sets::union(true, values, set_at(notes, OBJECTS_GREW));
     sets::union(true, objects, labels)
@@ -231,7 +135,10 @@ fn mark(wide: bool, index: &[u64; 256], notes: &mut [u64; 256]) {
     let quiet = sets::is_empty(wide, set_at(notes, THROWN_GREW));
     let prims = if quiet { 0 } else { 6 };
     let names = words::join(notes[NAMES_GREW], prims);
-    let marks = words::join(blocks_of(index, bytes_grew(notes)), blocks_named(notes, names));
+    let marks = words::join(
+        blocks_of(index, bytes_grew(notes)),
+        blocks_named(notes, names),
+    );
     notes[MARKS] = marks;
     notes[BITS] = 0;
     notes[WORD] = 511;
@@ -283,7 +190,15 @@ fn look(wide: bool, t: &[u64], file: &[u8], host: &[u64; 16], notes: &mut [u64; 
 }
 
 // The next record of the round that is worth a look; END where there is none.
-fn scan(wide: bool, t: &[u64], file: &[u8], host: &[u64; 16], low: &[u64; 256], high: &[u64; 256], notes: &mut [u64; 256]) -> usize
+fn scan(
+    wide: bool,
+    t: &[u64],
+    file: &[u8],
+    host: &[u64; 16],
+    low: &[u64; 256],
+    high: &[u64; 256],
+    notes: &mut [u64; 256],
+) -> usize
     requires { ⌜ wordCount wide ≤ length (now t) ⌝ }
 {
     for turn in 0..520usize {

@@ -16,18 +16,23 @@ pub const NAMED: usize = 0;
 
 // the variables that are a record's callee; those that are the object of a load, a new or a prim
 pub const CALLEES: usize = 32;
+
 pub const OBJECTS: usize = 36;
 
 // ---- the queue and the recent records: how many there are; the place of the first, and of the next
 
 pub const QUEUED: usize = 40;
+
 pub const QUEUE_AT: usize = 41;
+
 pub const RECENT: usize = 42;
+
 pub const RECENT_AT: usize = 43;
 
 // ---- since the last round over all rows: the names under which something was stored, and what
 
 pub const NAMES: usize = 44;
+
 pub const NEWS: usize = 48;
 
 // ---- what grew, for this round
@@ -36,13 +41,17 @@ pub const NEWS: usize = 48;
 pub const VARIABLES_GREW: usize = 52;
 // variables that hold a function that hands back or throws more, and those that hold a label whose chain grew
 pub const CALLEES_GREW: usize = 56;
+
 pub const OBJECTS_GREW: usize = 60;
 // rows of T and of P
 pub const SCOPES_GREW: usize = 64;
+
 pub const LABELS_GREW: usize = 68;
 // what was stored, what functions hand back more of, what is thrown more of (and perhaps more)
 pub const NEWS_GREW: usize = 72;
+
 pub const HANDED_GREW: usize = 76;
+
 pub const THROWN_GREW: usize = 80;
 // the functions that hand back or throw more
 pub const FUNCTIONS_GREW: usize = 84;
@@ -53,20 +62,27 @@ pub const NAMES_GREW: usize = 88;
 
 // the marked blocks that are left; the number of 64 bytes at which the scan is, and those of its records that are left
 pub const MARKS: usize = 92;
+
 pub const WORD: usize = 93;
+
 pub const BITS: usize = 94;
 // 1 where the blocks are not marked yet; where the lines are due
 pub const FRESH: usize = 95;
+
 pub const LINES_DUE: usize = 96;
 // 1 where the round ends with the first record found that grows something
 pub const FIRST: usize = 97;
 // 1 where the round grew something; where the last position came from the queue
 pub const GREW: usize = 98;
+
 pub const FROM_QUEUE: usize = 99;
 // which rows the round looks at: 0 before the first, then one of these
 pub const STAGE: usize = 100;
+
 pub const LAST: u64 = 1;
+
 pub const NEAR: u64 = 2;
+
 pub const ALL: u64 = 3;
 
 // ---- numbers

@@ -29,9 +29,10 @@ returns-2 c =
     let high = c .before .before .before in
     let low = high .before .before in
     let start = low .before .before .before .before .before .before in
-    let here : BeginsAt (labels (start .args .wide)) (start .args .file .now) (start .args .at) = (start .pre .0, start .pre .1) in
-    (begins-more 0 (start .args .low .now) (low .set-start .last .0) here (start .pre .2 .0) (low .set-start .ensures),
-    begins-more 16384 (start .args .high .now) (high .set-start2 .last .0) here (start .pre .2 .1) (high .set-start2 .ensures))
+    let here : BeginsAt (labels (start .args .wide)) (start .args .file .now) (start .args .at) = (start .pre .0, start .pre .1) in (
+      begins-more 0 (start .args .low .now) (low .set-start .last .0) here (start .pre .2 .0) (low .set-start .ensures),
+      begins-more 16384 (start .args .high .now) (high .set-start2 .last .0) here (start .pre .2 .1) (high .set-start2 .ensures),
+    )
 
 pub enter-spec : {M : Type 1} → statement M
 enter-spec =

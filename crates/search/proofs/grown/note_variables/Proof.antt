@@ -1,8 +1,8 @@
--- A turn for each label. Assumes nothing.
+-- A turn for each variable. Assumes nothing.
 use borrow.Author.Needs.{needs}
 use Prim.Native.Nat.{_≤_, _-_}
-use Rattle.search.proofs.rounds.note_labels.Statement.{statement}
-use Rattle.search.proofs.rounds.note_labels.Tie as tie
+use Rattle.search.proofs.grown.note_variables.Statement.{statement}
+use Rattle.search.proofs.grown.note_variables.Tie as tie
 
 abbrev Inv-loop : tie.InvT-loop
 Inv-loop t wide sizes₀ notes₀ i₀ sizes notes i = i ≤ 256
@@ -16,17 +16,11 @@ loop-holds c = search needs
 low-byte-requires : tie.Need-low-byte-requires Inv-loop μ-loop
 low-byte-requires c κs = search needs
 
-chain-requires : tie.Need-chain-requires Inv-loop μ-loop
-chain-requires c κs = search needs
+held-requires : tie.Need-held-requires Inv-loop μ-loop
+held-requires c κs = search needs
 
 note-row-requires : tie.Need-note-row-requires Inv-loop μ-loop
 note-row-requires c κs = search needs
-
-thrown-requires : tie.Need-thrown-requires Inv-loop μ-loop
-thrown-requires c κs = search needs
-
-note-row-requires-2 : tie.Need-note-row-requires-2 Inv-loop μ-loop
-note-row-requires-2 c κs = search needs
 
 add-i : tie.Need-add-i Inv-loop μ-loop
 add-i c = search needs
@@ -40,18 +34,16 @@ loop-again c = search needs
 returns : tie.Need-returns Inv-loop μ-loop
 returns c = search needs
 
-pub note-labels-spec : {M : Type 1} → statement M
-note-labels-spec =
+pub note-variables-spec : {M : Type 1} → statement M
+note-variables-spec =
     tie.close
     (tie.spec
     Inv-loop
     μ-loop
     loop-holds
     low-byte-requires
-    chain-requires
+    held-requires
     note-row-requires
-    thrown-requires
-    note-row-requires-2
     add-i
     loop-less
     loop-again

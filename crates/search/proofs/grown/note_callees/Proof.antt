@@ -1,8 +1,8 @@
 -- A turn for each label. Assumes nothing.
 use borrow.Author.Needs.{needs}
 use Prim.Native.Nat.{_≤_, _-_}
-use Rattle.search.proofs.rounds.note_callees.Statement.{statement}
-use Rattle.search.proofs.rounds.note_callees.Tie as tie
+use Rattle.search.proofs.grown.note_callees.Statement.{statement}
+use Rattle.search.proofs.grown.note_callees.Tie as tie
 
 abbrev Inv-loop : tie.InvT-loop
 Inv-loop t wide first second third fourth notes₀ l₀ l-end notes l = l ≤ l-end
