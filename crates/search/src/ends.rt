@@ -1,7 +1,6 @@
 // What a record reads and what it may write, for links: variables, scopes, names, and whether chains are concerned. A call writes the formals of the
 // functions that its callee holds now, and reads what they return and throw.
-ghost use mathlib.Core.Path.{_≡_};
-ghost use Prim.Native.Nat.{_+_, _*_, _<_, _≤_};
+ghost use Prim.Native.Nat.{_<_, _≤_};
 ghost use lib.ListN.{length};
 ghost use Rattle.lent.specs.Table.{wordCount};
 use crate::notes::FROM_QUEUE;

@@ -1,5 +1,4 @@
 // The queue, the records that grew something last, and the links: of a record, by a hash of its position, up to four that grew something after it.
-ghost use mathlib.Core.Path.{_≡_};
 ghost use Prim.Native.Nat.{_<_, _≤_};
 ghost use lib.ListN.{length};
 ghost use Rattle.lent.specs.Table.{wordCount};
@@ -7,6 +6,7 @@ use crate::ends::Ends;
 use crate::ends::ends_written;
 use crate::ends::feeds;
 use crate::notes::BITS;
+use crate::notes::END;
 use crate::notes::FIRST;
 use crate::notes::FROM_QUEUE;
 use crate::notes::GREW;
@@ -171,7 +171,7 @@ fn link(links_low: &mut [u64; 256], links_high: &mut [u64; 256], from: usize, to
     }
 }
 
-// The latest of the recent records that may be the cause of one that reads `to`; LINES + 1 where there is none.
+// The latest of the recent records that may be the cause of one that reads `to`; END where there is none.
 fn cause(
     wide: bool,
     t: &[u64],
@@ -190,7 +190,7 @@ fn cause(
             return from;
         }
     }
-    LINES + 1
+    END
 }
 
 // ---- what grew
@@ -226,7 +226,7 @@ fn learn(
     from: usize,
     at: usize,
 ) {
-    if from <= LINES {
+    if from < END {
         link(links_low, links_high, from, at);
     }
     if notes[FIRST] == 1 {

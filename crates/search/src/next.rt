@@ -1,11 +1,9 @@
 // The next record to apply: from the queue, else from the scan of the round.
-ghost use mathlib.Core.Path.{_≡_};
 ghost use mathlib.Core.List.{List};
-ghost use Prim.Native.Nat.{ℕ, _+_, _<_, _≤_};
+ghost use Prim.Native.Nat.{ℕ, _≤_};
 ghost use lib.ListN.{length};
 ghost use Rattle.rows.specs.Edition.{labels};
 ghost use Rattle.lent.specs.Table.{wordCount};
-ghost use Rattle.records.specs.Walk.{Walk};
 ghost use Rattle.search.specs.Begins.{Begins, Named};
 use crate::notes::BITS;
 use crate::notes::CALLEES_GREW;
@@ -19,8 +17,8 @@ use crate::notes::MARKS;
 use crate::notes::NAMED;
 use crate::notes::NAMES_GREW;
 use crate::notes::OBJECTS_GREW;
-use crate::notes::QUEUED;
 use crate::notes::QUEUE_AT;
+use crate::notes::QUEUED;
 use crate::notes::SCOPES_GREW;
 use crate::notes::THROWN_GREW;
 use crate::notes::VARIABLES_GREW;

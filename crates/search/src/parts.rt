@@ -1,6 +1,5 @@
 // The parts of a record and of the table that the search looks at. All of these answer for any number: a byte beyond the file is 0, a row beyond the table
 // is empty.
-ghost use mathlib.Core.Path.{_≡_};
 ghost use Prim.Native.Nat.{_≤_};
 ghost use lib.ListN.{length};
 ghost use Rattle.lent.specs.Table.{wordCount};

@@ -1,6 +1,5 @@
 // The rounds: first over what reads the rows of the last record that grew something, then of the last 16, then all rows that grew.
-ghost use mathlib.Core.Path.{_≡_};
-ghost use Prim.Native.Nat.{_+_, _<_, _≤_};
+ghost use Prim.Native.Nat.{_≤_};
 ghost use lib.ListN.{length};
 ghost use Rattle.lent.specs.Table.{wordCount};
 use crate::ends::ends_written;
