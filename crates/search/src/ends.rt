@@ -88,6 +88,7 @@ fn own_written(file: &[u8], at: usize) -> Set {
     }
 }
 
+// The scopes that it writes.
 fn scopes_written(file: &[u8], at: usize) -> Set {
     match byte(file, at, 0) {
         21 | 22 | 24 | 26 => bytes_at(file, at, 2),

@@ -160,6 +160,7 @@ fn note_row(
     }
 }
 
+// Notes the variables that grew.
 fn note_variables(t: &[u64], wide: bool, sizes: &mut [u16; 768], notes: &mut [u64; 256])
     requires { ⌜ wordCount wide ≤ length (now t) ⌝ }
 {
@@ -177,6 +178,7 @@ fn note_variables(t: &[u64], wide: bool, sizes: &mut [u16; 768], notes: &mut [u6
     }
 }
 
+// Notes the labels whose chains grew, and the scopes in which more is thrown.
 fn note_labels(t: &[u64], wide: bool, sizes: &mut [u16; 768], notes: &mut [u64; 256])
     requires { ⌜ wordCount wide ≤ length (now t) ⌝ }
 {

@@ -102,6 +102,7 @@ fn slot(at: usize) -> usize
     (mixed * 3210233709) % 4294967296 / 8388608
 }
 
+// The other place of a pair.
 fn second_slot(i: usize) -> usize
     requires { ⌜ i < 512 ⌝ }
     ensures { λ r. ⌜ r < 512 ⌝ }
@@ -109,6 +110,7 @@ fn second_slot(i: usize) -> usize
     if i % 2 == 0 { i + 1 } else { i - 1 }
 }
 
+// The links at a place.
 fn links_at(links_low: &[u64; 256], links_high: &[u64; 256], i: usize) -> u64
     requires { ⌜ i < 512 ⌝ }
 {
@@ -119,6 +121,7 @@ fn links_at(links_low: &[u64; 256], links_high: &[u64; 256], i: usize) -> u64
     }
 }
 
+// Links, to a place.
 fn write_links(links_low: &mut [u64; 256], links_high: &mut [u64; 256], i: usize, links: u64)
     requires { ⌜ i < 512 ⌝ }
 {

@@ -66,6 +66,7 @@ fn confirmed(low: &[u64; 256], high: &[u64; 256], at: usize) -> usize
 
 // ---- the queue
 
+// Leaves the queue with so many positions, the first at this place.
 fn leave(notes: &mut [u64; 256], left: usize, at: usize) {
     notes[QUEUED] = word(left);
     notes[QUEUE_AT] = word(at);

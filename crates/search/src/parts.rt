@@ -81,6 +81,9 @@ pub fn chain(t: &[u64], wide: bool, l: u8) -> Set
     lent::row(t, 0, wide, Label(l).chain(wide))
 }
 
+// Where `host` has the names of the classes.
+const CLASSES: usize = 8;
+
 // The names that a key stands for.
 fn names_of(host: &[u64; 16], key: u8) -> u64 {
     let k = place_of(key);
@@ -89,7 +92,7 @@ fn names_of(host: &[u64; 16], key: u8) -> u64 {
     }
     if 128 <= k {
         if k < 136 {
-            return host[k - 120];
+            return host[CLASSES + (k - 128)];
         }
     }
     0

@@ -46,11 +46,10 @@ fn stage_after(notes: &[u64; 256]) -> u64 {
     if notes[GREW] == 1 {
         return if notes[RECENT] == 0 { ALL } else { LAST };
     }
-    match stage {
-        1 => NEAR,
-        2 => ALL,
-        _ => 0,
+    if stage == LAST {
+        return NEAR;
     }
+    if stage == NEAR { ALL } else { 0 }
 }
 
 // Nothing grew, so far.
@@ -70,6 +69,7 @@ fn clear(notes: &mut [u64; 256]) {
 
 // ---- what the last records may have written
 
+// Notes what the record at `at`, or the lines, may have written.
 fn note_written(
     wide: bool,
     t: &[u64],
@@ -96,6 +96,7 @@ fn note_written(
     }
 }
 
+// The smaller of two numbers.
 fn least(x: usize, y: usize) -> usize
     ensures { λ r. ⌜ r ≤ y ⌝ }
 {
@@ -122,6 +123,14 @@ fn note_last(
 }
 
 // ---- a round
+
+// The scan begins; the lines come first in a round over all rows, and where variable 1 or something stored grew.
+fn start(notes: &mut [u64; 256], all: bool) {
+    let guest = has(notes, VARIABLES_GREW, 1) | (notes[NAMES_GREW] != 0);
+    notes[FRESH] = 1;
+    notes[FIRST] = if all { 0 } else { 1 };
+    notes[LINES_DUE] = if all | guest { 1 } else { 0 };
+}
 
 // Sets up the next round; true says that none is left.
 pub fn begin_round(
@@ -156,12 +165,4 @@ pub fn begin_round(
     note_callees(t, wide, first, second, third, fourth, notes);
     start(notes, stage == ALL);
     false
-}
-
-// The scan begins; the lines come first in a round over all rows, and where variable 1 or something stored grew.
-fn start(notes: &mut [u64; 256], all: bool) {
-    let guest = has(notes, VARIABLES_GREW, 1) | (notes[NAMES_GREW] != 0);
-    notes[FRESH] = 1;
-    notes[FIRST] = if all { 0 } else { 1 };
-    notes[LINES_DUE] = if all | guest { 1 } else { 0 };
 }

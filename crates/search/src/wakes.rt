@@ -53,12 +53,14 @@ fn lacks_thrown(wide: bool, t: &[u64], file: &[u8], notes: &[u64; 256], at: usiz
     )
 }
 
+// Whether a call's variable lacks something that is handed back.
 fn lacks_handed(wide: bool, t: &[u64], file: &[u8], notes: &[u64; 256], at: usize) -> bool
     requires { ⌜ wordCount wide ≤ length (now t) ⌝ }
 {
     !sets::is_within(wide, set_at(notes, HANDED_GREW), held(t, wide, file, at, 2))
 }
 
+// A load: its object or a chain grew, or something was stored that its variable lacks.
 fn wakes_load(
     wide: bool,
     t: &[u64],
@@ -135,6 +137,7 @@ fn wakes_new(file: &[u8], host: &[u64; 16], notes: &[u64; 256], at: usize) -> bo
         | names_grew(file, host, notes, at)
 }
 
+// What wakes a prim, but for what is thrown.
 fn wakes_prim(file: &[u8], host: &[u64; 16], notes: &[u64; 256], at: usize) -> bool {
     grew(file, notes, at, 2)
         | among(file, notes, OBJECTS_GREW, at, 2)
