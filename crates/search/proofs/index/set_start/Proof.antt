@@ -1,0 +1,53 @@
+-- One bit more, in one word. Assumes nothing.
+use borrow.Author.Needs.{needs}
+use mathlib.Core.Logic.{inl, inr, ⊎-elim}
+use native.Mathlib.Omega.{arith}
+use Prim.Native.Nat.{_-_}
+use Rattle.search.proofs.Begins.{one-bit-more}
+use Rattle.search.proofs.index.set_start.Statement.{statement}
+use Rattle.search.proofs.index.set_start.Tie as tie
+
+returns : tie.Need-returns
+returns c = λ b i h o. inr o
+
+returns-2 : tie.Need-returns-2
+returns-2 c = λ b i h o. inr o
+
+mul-join : tie.Need-mul-join
+mul-join c = search needs
+
+element-copy-out-join : tie.Need-element-copy-out-join
+element-copy-out-join c = search needs
+
+single-requires : tie.Need-single-requires
+single-requires c κs = search needs
+
+join-requires : tie.Need-join-requires
+join-requires c κs = search needs
+
+mul-starts : tie.Need-mul-starts
+mul-starts c = search needs
+
+element-write-starts : tie.Need-element-write-starts
+element-write-starts c = search needs
+
+returns-3 : tie.Need-returns-3
+returns-3 c =
+    let start = c .before .before .before .before .before in
+    let a = start .args in
+    let q = a .at - a .half in
+    λ b i h o. ⊎-elim (λ e. inl (omega (arith, e, c .before .before .before .before .if1 .left))) (λ w. inr w) (one-bit-more (a .starts .now) q b i (rw (c .join .ensures, c .before .single .ensures) at o))
+
+pub set-start-spec : {M : Type 1} → statement M
+set-start-spec =
+    tie.close
+    (tie.spec
+    returns
+    returns-2
+    mul-join
+    element-copy-out-join
+    single-requires
+    join-requires
+    mul-starts
+    element-write-starts
+    returns-3)

@@ -1,0 +1,65 @@
+-- A position below 32,768 is answered only where its bit is. Assumes nothing.
+use borrow.Author.Needs.{needs}
+use mathlib.Core.Path.{sym, _∙_}
+use native.Mathlib.Omega.{arith}
+use Prim.Native.Nat.{_-_}
+use Rattle.search.proofs.Begins.{begins-low, begins-high}
+use Rattle.search.proofs.next.confirmed.Statement.{statement}
+use Rattle.search.proofs.next.confirmed.Tie as tie
+
+returns : tie.Need-returns
+returns c = λ L file b h. absurd (omega (arith, h))
+
+mul-has : tie.Need-mul-has
+mul-has c = search needs
+
+element-copy-out-has : tie.Need-element-copy-out-has
+element-copy-out-has c = search needs
+
+has-requires : tie.Need-has-requires
+has-requires c κs = search needs
+
+returns-2 : tie.Need-returns-2
+returns-2 c =
+    let a = c .before .before .before .before .before .args in
+    λ L file b h. begins-low L file (a .low .now) (a .high .now) (a .at) b (c .before .before .before .if2 .taken) (sym (c .before .has .ensures) ∙ c .if3 .taken)
+
+returns-3 : tie.Need-returns-3
+returns-3 c = λ L file b h. absurd (omega (arith, h))
+
+mul-has-2 : tie.Need-mul-has-2
+mul-has-2 c = search needs
+
+element-copy-out-has-2 : tie.Need-element-copy-out-has-2
+element-copy-out-has-2 c = search needs
+
+has-requires-2 : tie.Need-has-requires-2
+has-requires-2 c κs = search needs
+
+returns-4 : tie.Need-returns-4
+returns-4 c =
+    let a = c .before .before .before .before .before .before .args in
+    λ L file b h. begins-high L file (a .low .now) (a .high .now) (a .at) (a .at - 16384) b (omega (arith, c .before .before .before .before .if2 .left)) (omega (arith, h)) (sym (c .before .has2 .ensures) ∙ c .if5 .taken)
+
+returns-5 : tie.Need-returns-5
+returns-5 c = λ L file b h. absurd (omega (arith, h))
+
+returns-6 : tie.Need-returns-6
+returns-6 c = λ L file b h. absurd (omega (arith, h))
+
+pub confirmed-spec : {M : Type 1} → statement M
+confirmed-spec =
+    tie.close
+    (tie.spec
+    returns
+    mul-has
+    element-copy-out-has
+    has-requires
+    returns-2
+    returns-3
+    mul-has-2
+    element-copy-out-has-2
+    has-requires-2
+    returns-4
+    returns-5
+    returns-6)

@@ -1,0 +1,2 @@
+-- What the search promises.
+pub mod Begins

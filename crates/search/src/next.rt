@@ -1,0 +1,266 @@
+// The next record to apply: from the queue, else from the scan of the round.
+ghost use mathlib.Core.List.{List};
+ghost use Prim.Native.Nat.{ℕ, _≤_};
+ghost use lib.ListN.{length};
+ghost use Rattle.rows.specs.Edition.{labels};
+ghost use Rattle.lent.specs.Table.{wordCount};
+ghost use Rattle.search.specs.Begins.{Begins, Named};
+use crate::notes::BITS;
+use crate::notes::CALLEES_GREW;
+use crate::notes::END;
+use crate::notes::ENDED;
+use crate::notes::FRESH;
+use crate::notes::FROM_QUEUE;
+use crate::notes::LABELS_GREW;
+use crate::notes::LINES;
+use crate::notes::LINES_DUE;
+use crate::notes::MARKS;
+use crate::notes::NAMED;
+use crate::notes::NAMES_GREW;
+use crate::notes::OBJECTS_GREW;
+use crate::notes::QUEUE_AT;
+use crate::notes::QUEUED;
+use crate::notes::SCOPES_GREW;
+use crate::notes::THROWN_GREW;
+use crate::notes::VARIABLES_GREW;
+use crate::notes::WORD;
+use crate::notes::long;
+use crate::notes::number;
+use crate::notes::place_of;
+use crate::notes::set_at;
+use crate::notes::word;
+use crate::wakes::wakes;
+use sets::Set;
+
+// Where records begin in the w-th 64 bytes.
+fn starts(low: &[u64; 256], high: &[u64; 256], w: usize) -> u64 {
+    if w < 256 {
+        return low[w];
+    }
+    if w < 512 {
+        return high[w - 256];
+    }
+    0
+}
+
+// The position itself where a record begins there, or the lines; else END.
+fn confirmed(low: &[u64; 256], high: &[u64; 256], at: usize) -> usize
+    ensures { λ r. ⌜ ((L : ℕ) (file : List ℕ) → Begins L file (now (low .entry)) (now (high .entry)) → Named L file r) ⌝ }
+{
+    if at == LINES {
+        return LINES;
+    }
+    if at < 16384 {
+        if words::has(low[at / 64], at % 64) == 1 {
+            return at;
+        }
+        return END;
+    }
+    if at < 32768 {
+        let q = at - 16384;
+        if words::has(high[q / 64], q % 64) == 1 {
+            return at;
+        }
+    }
+    END
+}
+
+// ---- the queue
+
+// Leaves the queue with so many positions, the first at this place.
+fn leave(notes: &mut [u64; 256], left: usize, at: usize) {
+    notes[QUEUED] = word(left);
+    notes[QUEUE_AT] = word(at);
+}
+
+// Takes the next queued position at which a record begins, or the lines; END where there is none.
+fn take(low: &[u64; 256], high: &[u64; 256], queue: &[u16; 1024], notes: &mut [u64; 256]) -> usize {
+    let mut left = number(notes[QUEUED]);
+    let mut at = number(notes[QUEUE_AT]);
+    while left != 0 {
+        let found = confirmed(low, high, long(queue[at % 1024]));
+        at = at % 1024 + 1;
+        left -= 1;
+        if found < END {
+            leave(notes, left, at);
+            return found;
+        }
+    }
+    leave(notes, 0, 0);
+    END
+}
+
+// ---- the blocks of a round
+
+// The blocks in which a byte of s is read.
+fn blocks_of(index: &[u64; 256], s: Set) -> u64 {
+    let mut marks: u64 = 0;
+    let mut rest = s;
+    while !sets::is_empty(true, rest) {
+        let next = sets::next(true, rest);
+        marks = words::join(marks, index[place_of(next.label.0)]);
+        let after = next.rest;
+        rest = after;
+    }
+    marks
+}
+
+// The blocks in which one of the names is looked under.
+fn blocks_named(notes: &[u64; 256], names: u64) -> u64 {
+    let mut marks: u64 = 0;
+    let mut rest = names;
+    while rest != 0 {
+        let next = words::next(rest);
+        marks = words::join(marks, notes[NAMED + next.label % 32]);
+        let after = next.rest;
+        rest = after;
+    }
+    marks
+}
+
+// The bytes that grew in some role.
+fn bytes_grew(notes: &[u64; 256]) -> Set {
+    let values = sets::union(
+        true,
+        set_at(notes, VARIABLES_GREW),
+        set_at(notes, CALLEES_GREW),
+    );
+    let labels = sets::union(true, set_at(notes, SCOPES_GREW), set_at(notes, LABELS_GREW));
+    let objects = sets::union(true, values, set_at(notes, OBJECTS_GREW));
+    sets::union(true, objects, labels)
+}
+
+// Marks the blocks worth a look. A prim, which looks under names 1 and 2, is where something is thrown.
+fn mark(wide: bool, index: &[u64; 256], notes: &mut [u64; 256]) {
+    let quiet = sets::is_empty(wide, set_at(notes, THROWN_GREW));
+    let prims = if quiet { 0 } else { 6 };
+    let names = words::join(notes[NAMES_GREW], prims);
+    let marks = words::join(
+        blocks_of(index, bytes_grew(notes)),
+        blocks_named(notes, names),
+    );
+    notes[MARKS] = marks;
+    notes[BITS] = 0;
+    notes[WORD] = 511;
+}
+
+// ---- the scan
+
+// Takes up the w-th 64 bytes.
+fn turn_to(low: &[u64; 256], high: &[u64; 256], notes: &mut [u64; 256], w: usize) {
+    notes[WORD] = word(w);
+    notes[BITS] = starts(low, high, w);
+}
+
+// The next 64 bytes of the block, or the first of the next marked one; says whether there are any.
+fn onward(low: &[u64; 256], high: &[u64; 256], notes: &mut [u64; 256]) -> bool {
+    let w = number(notes[WORD]) % 512;
+    if w % 8 != 7 {
+        turn_to(low, high, notes, w + 1);
+        return true;
+    }
+    let marks = notes[MARKS];
+    if marks == 0 {
+        return false;
+    }
+    let next = words::next(marks);
+    notes[MARKS] = next.rest;
+    turn_to(low, high, notes, 8 * next.label);
+    true
+}
+
+// The next record of these 64 bytes that is worth a look; END where there is none.
+fn look(wide: bool, t: &[u64], file: &[u8], host: &[u64; 16], notes: &mut [u64; 256]) -> usize
+    requires { ⌜ wordCount wide ≤ length (now t) ⌝ }
+{
+    let from = 64 * (number(notes[WORD]) % 512);
+    let mut rest = notes[BITS];
+    while rest != 0 {
+        let next = words::next(rest);
+        let at = from + next.label;
+        let after = next.rest;
+        rest = after;
+        if wakes(wide, t, file, host, notes, at) {
+            notes[BITS] = rest;
+            return at;
+        }
+    }
+    notes[BITS] = 0;
+    END
+}
+
+// The next record of the round that is worth a look; END where there is none.
+fn scan(
+    wide: bool,
+    t: &[u64],
+    file: &[u8],
+    host: &[u64; 16],
+    low: &[u64; 256],
+    high: &[u64; 256],
+    notes: &mut [u64; 256],
+) -> usize
+    requires { ⌜ wordCount wide ≤ length (now t) ⌝ }
+{
+    for turn in 0..520usize {
+        let found = look(wide, t, file, host, notes);
+        if found < END {
+            return found;
+        }
+        if !onward(low, high, notes) {
+            return END;
+        }
+    }
+    END
+}
+
+// The next position of the round.
+fn choose(
+    wide: bool,
+    t: &[u64],
+    file: &[u8],
+    host: &[u64; 16],
+    low: &[u64; 256],
+    high: &[u64; 256],
+    index: &[u64; 256],
+    queue: &[u16; 1024],
+    notes: &mut [u64; 256],
+) -> usize
+    requires { ⌜ wordCount wide ≤ length (now t) ⌝ }
+    ensures { λ r. ⌜ (Begins (labels wide) (now (file .entry)) (now (low .entry)) (now (high .entry)) → Named (labels wide) (now (file .entry)) r) ⌝ }
+{
+    let queued = take(low, high, queue, notes);
+    if queued < END {
+        notes[FROM_QUEUE] = 1;
+        return confirmed(low, high, queued);
+    }
+    notes[FROM_QUEUE] = 0;
+    if notes[FRESH] == 1 {
+        notes[FRESH] = 0;
+        mark(wide, index, notes);
+    }
+    if notes[LINES_DUE] == 1 {
+        notes[LINES_DUE] = 0;
+        return LINES;
+    }
+    confirmed(low, high, scan(wide, t, file, host, low, high, notes))
+}
+
+// The next position to apply: one where a record begins, LINES for the P line and the guest, or END where the round is over.
+pub fn next(
+    wide: bool,
+    t: &[u64],
+    file: &[u8],
+    host: &[u64; 16],
+    low: &[u64; 256],
+    high: &[u64; 256],
+    index: &[u64; 256],
+    queue: &[u16; 1024],
+    notes: &mut [u64; 256],
+) -> usize
+    requires { ⌜ wordCount wide ≤ length (now t) ⌝ }
+    ensures { λ r. ⌜ (Begins (labels wide) (now (file .entry)) (now (low .entry)) (now (high .entry)) → Named (labels wide) (now (file .entry)) r) ⌝ }
+{
+    let at = choose(wide, t, file, host, low, high, index, queue, notes);
+    notes[ENDED] = if at == END { 1 } else { 0 };
+    at
+}

@@ -1,0 +1,151 @@
+// The parts of a record and of the table that the search looks at. All of these answer for any number: a byte beyond the file is 0, a row beyond the table
+// is empty.
+ghost use Prim.Native.Nat.{_≤_};
+ghost use lib.ListN.{length};
+ghost use Rattle.lent.specs.Table.{wordCount};
+use crate::notes::place_of;
+use rows::Label;
+use rows::Var;
+use sets::Set;
+
+// Byte j of the record at `at`: its kind is byte 0.
+pub fn byte(file: &[u8], at: usize, j: usize) -> u8 {
+    if file.len() <= at {
+        return 0;
+    }
+    if file.len() - at <= j {
+        return 0;
+    }
+    file[at + j]
+}
+
+// A byte as a set of bytes.
+pub fn one(v: u8) -> Set {
+    sets::single(true, Label(v))
+}
+
+// Which bytes of a record are rows that it reads: variables, the scope of a catch, the w of a load. Bit j is byte j.
+pub fn reads(kind: u8) -> u64 {
+    match kind {
+        5 | 6 => 2,
+        16 => 8,
+        17 => 40,
+        18 => 20,
+        21 => 2040,
+        22 => 4056,
+        24 => 4,
+        25 => 2,
+        26 => 4,
+        _ => 0,
+    }
+}
+
+// These bytes of the record at `at`.
+pub fn bytes_at(file: &[u8], at: usize, which: u64) -> Set {
+    let mut all = sets::none(true);
+    let mut rest = which;
+    while rest != 0 {
+        let next = words::next(rest);
+        let j = next.label;
+        all = sets::union(true, all, one(byte(file, at, j)));
+        let after = next.rest;
+        rest = after;
+    }
+    all
+}
+
+// What the variable named by byte j of the record at `at` holds.
+pub fn held(t: &[u64], wide: bool, file: &[u8], at: usize, j: usize) -> Set
+    requires { ⌜ wordCount wide ≤ length (now t) ⌝ }
+{
+    uses::held(t, wide, Var(byte(file, at, j)))
+}
+
+// What is thrown in the scope of this number.
+pub fn thrown(t: &[u64], wide: bool, k: u8) -> Set
+    requires { ⌜ wordCount wide ≤ length (now t) ⌝ }
+{
+    if rows::labels(wide) <= place_of(k) {
+        return sets::none(wide);
+    }
+    lent::row(t, 0, wide, Label(k).thrown(wide))
+}
+
+// The chain of the label of this number.
+pub fn chain(t: &[u64], wide: bool, l: u8) -> Set
+    requires { ⌜ wordCount wide ≤ length (now t) ⌝ }
+{
+    if rows::labels(wide) <= place_of(l) {
+        return sets::none(wide);
+    }
+    lent::row(t, 0, wide, Label(l).chain(wide))
+}
+
+// Where `host` has the names of the classes.
+const CLASSES: usize = 8;
+
+// The names that a key stands for.
+fn names_of(host: &[u64; 16], key: u8) -> u64 {
+    let k = place_of(key);
+    if k < 32 {
+        return words::single(k);
+    }
+    if 128 <= k {
+        if k < 136 {
+            return host[CLASSES + (k - 128)];
+        }
+    }
+    0
+}
+
+// The name of a variable's record, where it has one.
+fn name_of(name: u8) -> u64 {
+    let n = place_of(name);
+    if n < 32 {
+        return words::single(n);
+    }
+    0
+}
+
+// The names under which the record at `at` looks.
+pub fn names_read(file: &[u8], host: &[u64; 16], at: usize) -> u64 {
+    match byte(file, at, 0) {
+        5 => name_of(byte(file, at, 3)),
+        17 => names_of(host, byte(file, at, 4)),
+        22 => 8,
+        26 => 6,
+        _ => 0,
+    }
+}
+
+// The names under which it stores.
+pub fn names_written(file: &[u8], host: &[u64; 16], at: usize) -> u64 {
+    match byte(file, at, 0) {
+        5 => name_of(byte(file, at, 3)),
+        18 => names_of(host, byte(file, at, 3)),
+        _ => 0,
+    }
+}
+
+// What it stores.
+pub fn stored(t: &[u64], wide: bool, file: &[u8], at: usize) -> Set
+    requires { ⌜ wordCount wide ≤ length (now t) ⌝ }
+{
+    match byte(file, at, 0) {
+        5 => held(t, wide, file, at, 1),
+        18 => held(t, wide, file, at, 4),
+        _ => sets::none(wide),
+    }
+}
+
+// The functions that it may call, as far as the table tells; for a prim all functions.
+pub fn callees(t: &[u64], wide: bool, file: &[u8], host: &[u64; 16], at: usize) -> Set
+    requires { ⌜ wordCount wide ≤ length (now t) ⌝ }
+{
+    let functions = host::functions(host, wide);
+    match byte(file, at, 0) {
+        21 | 22 => sets::meet(wide, held(t, wide, file, at, 3), functions),
+        26 => functions,
+        _ => sets::none(wide),
+    }
+}

@@ -1,0 +1,172 @@
+// The rounds: first over what reads the rows of the last record that grew something, then of the last 16, then all rows that grew.
+ghost use Prim.Native.Nat.{_≤_};
+ghost use lib.ListN.{length};
+ghost use Rattle.lent.specs.Table.{wordCount};
+use crate::ends::ends_written;
+use crate::grown::note_all;
+use crate::grown::note_callees;
+use crate::links::recent_at;
+use crate::links::recent_count;
+use crate::notes::ALL;
+use crate::notes::CALLEES_GREW;
+use crate::notes::ENDED;
+use crate::notes::FIRST;
+use crate::notes::FRESH;
+use crate::notes::FUNCTIONS_GREW;
+use crate::notes::GREW;
+use crate::notes::HANDED_GREW;
+use crate::notes::LABELS_GREW;
+use crate::notes::LAST;
+use crate::notes::LINES_DUE;
+use crate::notes::NAMES_GREW;
+use crate::notes::NEAR;
+use crate::notes::NEWS_GREW;
+use crate::notes::OBJECTS;
+use crate::notes::OBJECTS_GREW;
+use crate::notes::RECENT;
+use crate::notes::SCOPES_GREW;
+use crate::notes::STAGE;
+use crate::notes::THROWN_GREW;
+use crate::notes::VARIABLES_GREW;
+use crate::notes::add;
+use crate::notes::has;
+use crate::notes::keep;
+use crate::notes::set_at;
+use crate::parts::stored;
+
+const NEAR_COUNT: usize = 16;
+
+// ---- which round is next
+
+// The stage after this one, 0 where none is left.
+fn stage_after(notes: &[u64; 256]) -> u64 {
+    let stage = notes[STAGE];
+    if stage == 0 {
+        return ALL;
+    }
+    if notes[GREW] == 1 {
+        return if notes[RECENT] == 0 { ALL } else { LAST };
+    }
+    if stage == LAST {
+        return NEAR;
+    }
+    if stage == NEAR { ALL } else { 0 }
+}
+
+// Nothing grew, so far.
+fn clear(notes: &mut [u64; 256]) {
+    let none = sets::none(true);
+    keep(notes, VARIABLES_GREW, none);
+    keep(notes, CALLEES_GREW, none);
+    keep(notes, OBJECTS_GREW, none);
+    keep(notes, SCOPES_GREW, none);
+    keep(notes, LABELS_GREW, none);
+    keep(notes, NEWS_GREW, none);
+    keep(notes, HANDED_GREW, none);
+    keep(notes, THROWN_GREW, none);
+    keep(notes, FUNCTIONS_GREW, none);
+    notes[NAMES_GREW] = 0;
+}
+
+// ---- what the last records may have written
+
+// Notes what the record at `at`, or the lines, may have written.
+fn note_written(
+    wide: bool,
+    t: &[u64],
+    file: &[u8],
+    host: &[u64; 16],
+    formals: &[u8; 1792],
+    notes: &mut [u64; 256],
+    at: usize,
+)
+    requires { ⌜ wordCount wide ≤ length (now t) ⌝ }
+{
+    let ends = ends_written(wide, t, file, host, formals, at);
+    let variables = ends.variables;
+    let scopes = ends.scopes;
+    add(notes, VARIABLES_GREW, variables);
+    add(notes, SCOPES_GREW, scopes);
+    notes[NAMES_GREW] = words::join(notes[NAMES_GREW], ends.names);
+    if ends.names != 0 {
+        add(notes, NEWS_GREW, stored(t, wide, file, at));
+    }
+    if ends.chains {
+        let objects = set_at(notes, OBJECTS);
+        keep(notes, OBJECTS_GREW, objects);
+    }
+}
+
+// The smaller of two numbers.
+fn least(x: usize, y: usize) -> usize
+    ensures { λ r. ⌜ r ≤ y ⌝ }
+{
+    if x < y { x } else { y }
+}
+
+// The same for the last `count` records that grew something.
+fn note_last(
+    wide: bool,
+    t: &[u64],
+    file: &[u8],
+    host: &[u64; 16],
+    formals: &[u8; 1792],
+    recent: &[u16; 512],
+    notes: &mut [u64; 256],
+    count: usize,
+)
+    requires { ⌜ wordCount wide ≤ length (now t) ⌝ }
+{
+    for back in 0..least(count, recent_count(notes)) {
+        let at = recent_at(recent, notes, back);
+        note_written(wide, t, file, host, formals, notes, at);
+    }
+}
+
+// ---- a round
+
+// The scan begins; the lines come first in a round over all rows, and where variable 1 or something stored grew.
+fn start(notes: &mut [u64; 256], all: bool) {
+    let guest = has(notes, VARIABLES_GREW, 1) | (notes[NAMES_GREW] != 0);
+    notes[FRESH] = 1;
+    notes[FIRST] = if all { 0 } else { 1 };
+    notes[LINES_DUE] = if all | guest { 1 } else { 0 };
+}
+
+// Where the round is over, sets up the next one; true says that none is left.
+pub fn begin_round(
+    wide: bool,
+    t: &[u64],
+    file: &[u8],
+    host: &[u64; 16],
+    formals: &[u8; 1792],
+    first: &[u64; 256],
+    second: &[u64; 256],
+    third: &[u64; 256],
+    fourth: &[u64; 256],
+    sizes: &mut [u16; 768],
+    recent: &[u16; 512],
+    notes: &mut [u64; 256],
+) -> bool
+    requires { ⌜ wordCount wide ≤ length (now t) ⌝ }
+{
+    if notes[ENDED] != 1 {
+        return false;
+    }
+    let stage = stage_after(notes);
+    notes[STAGE] = stage;
+    notes[GREW] = 0;
+    if stage == 0 {
+        return true;
+    }
+    clear(notes);
+    if stage == ALL {
+        note_all(t, wide, sizes, notes);
+    } else {
+        let count = if stage == LAST { 1 } else { NEAR_COUNT };
+        note_last(wide, t, file, host, formals, recent, notes, count);
+    }
+    note_callees(t, wide, first, second, third, fourth, notes);
+    start(notes, stage == ALL);
+    false
+}

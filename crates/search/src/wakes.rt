@@ -1,0 +1,145 @@
+// Whether a record is worth a look: whether something that it reads grew, in the role in which it reads it.
+ghost use Prim.Native.Nat.{_+_, _≤_};
+ghost use lib.ListN.{length};
+ghost use Rattle.lent.specs.Table.{wordCount};
+use crate::notes::CALLEES_GREW;
+use crate::notes::HANDED_GREW;
+use crate::notes::LABELS_GREW;
+use crate::notes::NAMES_GREW;
+use crate::notes::NEWS_GREW;
+use crate::notes::OBJECTS_GREW;
+use crate::notes::SCOPES_GREW;
+use crate::notes::THROWN_GREW;
+use crate::notes::VARIABLES_GREW;
+use crate::notes::has;
+use crate::notes::set_at;
+use crate::parts::byte;
+use crate::parts::held;
+use crate::parts::names_read;
+use crate::parts::thrown;
+
+// Whether byte j of the record is in the set at a place.
+fn among(file: &[u8], notes: &[u64; 256], place: usize, at: usize, j: usize) -> bool
+    requires { ⌜ place + 4 ≤ 256 ⌝ }
+{
+    has(notes, place, byte(file, at, j))
+}
+
+// Whether the variable of byte j grew.
+fn grew(file: &[u8], notes: &[u64; 256], at: usize, j: usize) -> bool {
+    among(file, notes, VARIABLES_GREW, at, j)
+}
+
+// Whether something was stored under a name under which the record looks.
+fn names_grew(file: &[u8], host: &[u64; 16], notes: &[u64; 256], at: usize) -> bool {
+    words::meet(notes[NAMES_GREW], names_read(file, host, at)) != 0
+}
+
+// Whether a load's variable lacks something that was stored.
+fn lacks_news(wide: bool, t: &[u64], file: &[u8], notes: &[u64; 256], at: usize) -> bool
+    requires { ⌜ wordCount wide ≤ length (now t) ⌝ }
+{
+    !sets::is_within(wide, set_at(notes, NEWS_GREW), held(t, wide, file, at, 2))
+}
+
+// Whether a scope lacks something that is thrown.
+fn lacks_thrown(wide: bool, t: &[u64], file: &[u8], notes: &[u64; 256], at: usize) -> bool
+    requires { ⌜ wordCount wide ≤ length (now t) ⌝ }
+{
+    !sets::is_within(
+        wide,
+        set_at(notes, THROWN_GREW),
+        thrown(t, wide, byte(file, at, 1)),
+    )
+}
+
+// Whether a call's variable lacks something that is handed back.
+fn lacks_handed(wide: bool, t: &[u64], file: &[u8], notes: &[u64; 256], at: usize) -> bool
+    requires { ⌜ wordCount wide ≤ length (now t) ⌝ }
+{
+    !sets::is_within(wide, set_at(notes, HANDED_GREW), held(t, wide, file, at, 2))
+}
+
+// A load: its object or a chain grew, or something was stored that its variable lacks.
+fn wakes_load(
+    wide: bool,
+    t: &[u64],
+    file: &[u8],
+    host: &[u64; 16],
+    notes: &[u64; 256],
+    at: usize,
+) -> bool
+    requires { ⌜ wordCount wide ≤ length (now t) ⌝ }
+{
+    if grew(file, notes, at, 3)
+        | among(file, notes, OBJECTS_GREW, at, 3)
+        | among(file, notes, LABELS_GREW, at, 5)
+    {
+        return true;
+    }
+    if names_grew(file, host, notes, at) {
+        return lacks_news(wide, t, file, notes, at);
+    }
+    false
+}
+
+// A call, or a new: its callee or an input grew, or what its functions hand back or throw.
+fn wakes_call(wide: bool, t: &[u64], file: &[u8], notes: &[u64; 256], at: usize) -> bool
+    requires { ⌜ wordCount wide ≤ length (now t) ⌝ }
+{
+    let first = grew(file, notes, at, 3)
+        | grew(file, notes, at, 4)
+        | grew(file, notes, at, 5)
+        | grew(file, notes, at, 6);
+    let second = grew(file, notes, at, 7)
+        | grew(file, notes, at, 8)
+        | grew(file, notes, at, 9)
+        | grew(file, notes, at, 10);
+    if first | second {
+        return true;
+    }
+    if among(file, notes, CALLEES_GREW, at, 3) {
+        return lacks_handed(wide, t, file, notes, at) | lacks_thrown(wide, t, file, notes, at);
+    }
+    false
+}
+
+// Whether the record at `at` is worth a look.
+pub fn wakes(
+    wide: bool,
+    t: &[u64],
+    file: &[u8],
+    host: &[u64; 16],
+    notes: &[u64; 256],
+    at: usize,
+) -> bool
+    requires { ⌜ wordCount wide ≤ length (now t) ⌝ }
+{
+    match byte(file, at, 0) {
+        5 => grew(file, notes, at, 1) | names_grew(file, host, notes, at),
+        6 => grew(file, notes, at, 1) | has(notes, VARIABLES_GREW, 1),
+        16 => grew(file, notes, at, 3),
+        17 => wakes_load(wide, t, file, host, notes, at),
+        18 => grew(file, notes, at, 2) | grew(file, notes, at, 4),
+        21 => wakes_call(wide, t, file, notes, at),
+        22 => wakes_call(wide, t, file, notes, at) | wakes_new(file, host, notes, at),
+        24 => grew(file, notes, at, 2),
+        25 => among(file, notes, SCOPES_GREW, at, 1),
+        26 => wakes_prim(file, host, notes, at) | lacks_thrown(wide, t, file, notes, at),
+        _ => false,
+    }
+}
+
+// What wakes a new beside what wakes a call.
+fn wakes_new(file: &[u8], host: &[u64; 16], notes: &[u64; 256], at: usize) -> bool {
+    grew(file, notes, at, 11)
+        | among(file, notes, OBJECTS_GREW, at, 3)
+        | names_grew(file, host, notes, at)
+}
+
+// What wakes a prim, but for what is thrown.
+fn wakes_prim(file: &[u8], host: &[u64; 16], notes: &[u64; 256], at: usize) -> bool {
+    grew(file, notes, at, 2)
+        | among(file, notes, OBJECTS_GREW, at, 2)
+        | names_grew(file, host, notes, at)
+}
