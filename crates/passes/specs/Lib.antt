@@ -1,2 +1,3 @@
 -- One pass over the rules of a file.
 pub mod Order
+pub mod Arrays
