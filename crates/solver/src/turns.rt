@@ -2,7 +2,7 @@
 ghost use mathlib.Core.Path.{_≡_};
 ghost use mathlib.Core.Bool.{true, false};
 ghost use mathlib.Core.List.{List};
-ghost use Prim.Native.Nat.{ℕ, _≤_};
+ghost use Prim.Native.Nat.{ℕ, _<_};
 ghost use lib.ListN.{length};
 ghost use Rattle.rows.specs.Edition.{labels};
 ghost use Rattle.format.specs.Reading.{Readable};
@@ -41,6 +41,7 @@ fn use_at(
 ) -> bool
     requires { ⌜ Lent wide 0 (length (now t)) × Readable (labels wide) (now file) × Named (labels wide) (now file) at ⌝ }
     ensures { λ _. ⌜ (Known wide (programIn wide (now (file .entry))) (now (host .entry)) (now (types .entry)) (now (formals .entry)) (record { first = now (first .entry); second = now (second .entry); third = now (third .entry); fourth = now (fourth .entry) }) → StepsFor wide (now (file .entry)) (now (t .entry)) (now (keeps .entry)) (now (t .exit)) (now (keeps .exit))) ⌝ }
+    ensures { λ _. ⌜ length (now (t .exit)) ≡ length (now (t .entry)) ⌝ }
 {
     if at == LINES {
         return passes::lines(
@@ -83,6 +84,9 @@ pub fn search_on(
     ensures { λ _. ⌜ (Known wide (programIn wide (now (file .entry))) (now (host .entry)) (now (types .entry)) (now (formals .entry)) (record { first = now (first .entry); second = now (second .entry); third = now (third .entry); fourth = now (fourth .entry) }) → StepsFor wide (now (file .entry)) (now (t .entry)) (now (keeps .entry)) (now (t .exit)) (now (keeps .exit))) ⌝ }
     ensures { λ _. ⌜ (go ≡ false → now (t .exit) ≡ now (t .entry)) ⌝ }
 {
+    if !go {
+        return;
+    }
     let mut low = [0u64; 256];
     let mut high = [0u64; 256];
     let mut index = [0u64; 256];
@@ -92,10 +96,8 @@ pub fn search_on(
     let mut queue = [0u16; 1024];
     let mut recent = [0u16; 512];
     let mut sizes = [0u16; 768];
-    let mut on = go;
-    if go {
-        search::index::index_file(wide, file, host, &mut low, &mut high, &mut index, &mut notes);
-    }
+    search::index::index_file(wide, file, host, &mut low, &mut high, &mut index, &mut notes);
+    let mut on = true;
     let mut turns: usize = 0;
     while on {
         let at = search::next::next(wide, t, file, host, &low, &high, &index, &queue, &mut notes);

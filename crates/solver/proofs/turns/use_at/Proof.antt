@@ -1,43 +1,46 @@
+-- What the search named: the lines, a record, or nothing. Assumes nothing.
 use borrow.Author.Needs.{needs}
+use mathlib.Core.Path.{refl}
+use Rattle.rows.specs.Edition.{labels}
+use Rattle.format.proofs.File.{readable-read}
+use Rattle.solver.proofs.Turning.{steps-lines, steps-record, steps-none}
 use Rattle.solver.proofs.turns.use_at.Statement.{statement}
 use Rattle.solver.proofs.turns.use_at.Tie as tie
-use Rattle.solver.proofs.turns.use_at.Reads as reads
-use Rattle.solver.proofs.turns.use_at.Lts as lts
-use Rattle.apply.proofs.apply.Reads as apply-reads
-use Rattle.passes.proofs.lines.Reads as lines-reads
-use Rattle.records.proofs.statement_at.Reads as statement-at-reads
 
--- src/turns.rt:46:9
 lines-requires : tie.Need-lines-requires
 lines-requires c κs = search needs
 
--- src/turns.rt:46:9
 same-length : tie.Need-same-length
 same-length c = search needs
 
--- src/turns.rt:46:9
 returns : tie.Need-returns
-returns c = ?
+returns c = 
+    let lines = c .before .before in
+    (λ known. steps-lines (lines .lines .ensures _ known), search needs)
 
--- src/turns.rt:51:13
 statement-at-requires : tie.Need-statement-at-requires
-statement-at-requires c κs = ?
+statement-at-requires c κs = 
+    let start = c .before .before .before .before in
+    let named = start .pre .2 (c .if2 .taken) in
+    (named .0, named .1, readable-read (labels (start .args .wide)) (start .args .file .now) (start .pre .1) .short)
 
--- src/turns.rt:52:9
 apply-requires : tie.Need-apply-requires
 apply-requires c κs = search needs
 
--- src/turns.rt:52:9
 same-length-2 : tie.Need-same-length-2
 same-length-2 c = search needs
 
--- src/turns.rt:52:9
 returns-2 : tie.Need-returns-2
-returns-2 c = ?
+returns-2 c = 
+    let turn = c .before .before in
+    let said = turn .before .before .before in
+    let test = said .before in
+    let start = test .before .before .before .before in
+    let named = start .pre .2 (test .if2 .taken) in
+    (λ known. steps-record (said .statement-at .result) (named .0) (named .1) (said .statement-at .ensures .0 _) (turn .apply .ensures _ (known .lays) (known .formals-of) (known .returning)), search needs)
 
--- src/turns.rt:28:1
 returns-3 : tie.Need-returns-3
-returns-3 c = ?
+returns-3 c = (λ known. steps-none, refl)
 
 pub use-at-spec : {M : Type 1} → statement M
 use-at-spec =

@@ -1,0 +1,22 @@
+-- Unions forgotten: the pairs are as good as before. Assumes nothing.
+use borrow.Author.Needs.{needs}
+use Rattle.kept.proofs.Remembers.{remembers-since}
+use Rattle.solver.proofs.turns.forget_if.Statement.{statement}
+use Rattle.solver.proofs.turns.forget_if.Tie as tie
+
+forget-requires : tie.Need-forget-requires
+forget-requires c κs = search needs
+
+returns : tie.Need-returns
+returns c = λ o p old t since m. remembers-since since (c .forget .ensures o p old t m)
+
+returns-2 : tie.Need-returns-2
+returns-2 c = λ o p old t since m. m
+
+pub forget-if-spec : {M : Type 1} → statement M
+forget-if-spec =
+    tie.close
+    (tie.spec
+    forget-requires
+    returns
+    returns-2)

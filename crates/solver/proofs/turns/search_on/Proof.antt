@@ -1,0 +1,126 @@
+-- The search: each turn adds only what the rules tell. Assumes nothing.
+use borrow.Author.Needs.{needs}
+use mathlib.Core.Path.{_≡_, refl, _∙_}
+use mathlib.Core.Bool.{true}
+use native.Mathlib.Omega.{arith}
+use Prim.Native.Nat.{_-_, _≤_, _<_}
+use lib.ListN.{length}
+use Rattle.rows.specs.Edition.{labels}
+use Rattle.format.proofs.File.{readable-read}
+use Rattle.lent.specs.Table.{wordCount}
+use Rattle.uses.proofs.Rows.{read-room}
+use Rattle.passes.specs.Order.{Known}
+use Rattle.solver.specs.Steps.{programIn, StepsFor}
+use Rattle.solver.proofs.Turning.{steps-none, steps-on, steps-forget, zero-at, went}
+use Rattle.solver.proofs.turns.search_on.Statement.{statement}
+use Rattle.solver.proofs.turns.search_on.Tie as tie
+
+abbrev Inv-loop : tie.InvT-loop
+Inv-loop go t₀ wide file host types formals first second third fourth keeps₀ low high index notes₀ links-low₀ links-high₀ queue₀ recent₀ sizes₀ on₀ turns₀ t keeps notes links-low links-high queue recent sizes on turns =
+    (length t ≡ length t₀) × (on ≡ true → turns < 100000000)
+    × (Known wide (programIn wide file) host types formals (record { first = first; second = second; third = third; fourth = fourth }) → StepsFor wide file t₀ keeps₀ t keeps)
+
+abbrev μ-loop : tie.MeasureT-loop
+μ-loop go t₀ wide file host types formals first second third fourth keeps₀ low high index notes₀ links-low₀ links-high₀ queue₀ recent₀ sizes₀ on₀ turns₀ t keeps notes links-low links-high queue recent sizes on turns =
+    100000000 - turns
+
+-- the table still has room after a use
+room-after : (c : tie.After-use-at Inv-loop μ-loop) → wordCount (c .before .before .before .before .before .before .before .before .before .before .before .before .before .before .before .before .before .before .before .before .args .wide) ≤ length (c .use-at .last .0)
+room-after c =
+    let loop = c .before .before .before .before .before .before .before .before .before .before .before in
+    let start = loop .before .before .before .before .before .before .before .before .before in
+    rw (c .use-at .ensures .1 ∙ loop .loop .inv .0) (read-room (start .args .wide) (start .pre .0))
+
+returns : tie.Need-returns Inv-loop μ-loop
+returns c = (λ known. steps-none, λ e. refl)
+
+index-file-requires : tie.Need-index-file-requires Inv-loop μ-loop
+index-file-requires c κs = 
+    let start = c .before .before .before .before .before .before .before in
+    (start .pre .1, readable-read (labels (start .args .wide)) (start .args .file .now) (start .pre .1) .short, zero-at 256, zero-at 256)
+
+loop-holds : tie.Need-loop-holds Inv-loop μ-loop
+loop-holds c = (refl, λ e. omega arith, λ known. steps-none)
+
+next-requires : tie.Need-next-requires Inv-loop μ-loop
+next-requires c κs = 
+    let loop = c .before .before .before .before .before .before .before in
+    let start = loop .before .before .before .before .before .before .before .before .before in
+    rw (loop .loop .inv .0) (read-room (start .args .wide) (start .pre .0))
+
+use-at-requires : tie.Need-use-at-requires Inv-loop μ-loop
+use-at-requires c κs = 
+    let next = c .before .before in
+    let loop = next .before .before .before .before .before .before .before .before in
+    let start = loop .before .before .before .before .before .before .before .before .before in
+    (rw (loop .loop .inv .0) (start .pre .0), start .pre .1, next .next .ensures (loop .before .index-file .ensures))
+
+forget-if-requires : tie.Need-forget-if-requires Inv-loop μ-loop
+forget-if-requires c κs = search needs
+
+grown-at-requires : tie.Need-grown-at-requires Inv-loop μ-loop
+grown-at-requires c κs = search needs
+
+ends-read-requires : tie.Need-ends-read-requires Inv-loop μ-loop
+ends-read-requires c κs = room-after (c .before .before .before .before .before .before .before)
+
+note-grown-requires : tie.Need-note-grown-requires Inv-loop μ-loop
+note-grown-requires c κs = room-after (c .before .before .before .before .before .before .before .before .before .before .before .before .before .before)
+
+begin-round-requires : tie.Need-begin-round-requires Inv-loop μ-loop
+begin-round-requires c κs = room-after (c .before .before .before .before .before .before .before .before .before .before .before .before .before .before .before .before .before .before .before)
+
+add-turns : tie.Need-add-turns Inv-loop μ-loop
+add-turns c = 
+    let loop = c .before .before .before .before .before .before .before .before .before .before .before .before .before .before .before .before .before .before .before .before .before .before .before .before .before .before .before .before .before .before .before in
+    omega (arith, loop .loop .inv .1 (c .before .before .before .before .before .before .before .before .before .before .before .before .before .before .before .before .before .before .before .before .before .before .before .before .before .before .before .before .before .before .loop-test .taken))
+
+goes-on-requires : tie.Need-goes-on-requires Inv-loop μ-loop
+goes-on-requires c κs = search needs
+
+loop-less : tie.Need-loop-less Inv-loop μ-loop
+loop-less c = 
+    let loop = c .before .before .before .before .before .before .before .before .before .before .before .before .before .before .before .before .before .before .before .before .before .before .before .before .before .before .before .before .before .before .before .before in
+    omega (arith, loop .loop .inv .1 (c .before .before .before .before .before .before .before .before .before .before .before .before .before .before .before .before .before .before .before .before .before .before .before .before .before .before .before .before .before .before .before .loop-test .taken))
+
+loop-again : tie.Need-loop-again Inv-loop μ-loop
+loop-again c = 
+    let forget = c .before .before .before .before .before .before .before .before .before .before .before .before .before .before .before .before .before in
+    let turn = c .before .before .before .before .before .before .before .before .before .before .before .before .before .before .before .before .before .before .before .before .before in
+    let loop = c .before .before .before .before .before .before .before .before .before .before .before .before .before .before .before .before .before .before .before .before .before .before .before .before .before .before .before .before .before .before .before .before in
+    (
+      turn .use-at .ensures .1 ∙ loop .loop .inv .0,
+      c .goes-on .ensures,
+      λ known. steps-on (loop .loop .inv .2 known) (steps-on (turn .use-at .ensures .0 known) (steps-forget (forget .forget-if .ensures))),
+    )
+
+same-length : tie.Need-same-length Inv-loop μ-loop
+same-length c = c .before .loop .inv .0
+
+returns-2 : tie.Need-returns-2 Inv-loop μ-loop
+returns-2 c = 
+    let loop = c .before in
+    (loop .loop .inv .2, λ e. went _ (loop .before .before .before .before .before .before .if1 .left) e)
+
+pub search-on-spec : {M : Type 1} → statement M
+search-on-spec =
+    tie.close
+    (tie.spec
+    Inv-loop
+    μ-loop
+    returns
+    index-file-requires
+    loop-holds
+    next-requires
+    use-at-requires
+    forget-if-requires
+    grown-at-requires
+    ends-read-requires
+    note-grown-requires
+    begin-round-requires
+    add-turns
+    goes-on-requires
+    loop-less
+    loop-again
+    same-length
+    returns-2)
