@@ -61,8 +61,8 @@ returns-3 c =
     let forbidden = readFile 64 xs .sheet .forbidden in
     let after = small-solved xs t _ full (s .solve .ensures) in
     let held =
-        small-held _ (h .held .result) _ forbidden (h .held .ensures) (ap (λ (z : Sheet). z .forbidden) (r .0))
-        ∙ ap (λ (u : Table). heldForbidden u (guestThree forbidden)) after in
+    small-held _ (h .held .result) _ forbidden (h .held .ensures) (ap (λ (z : Sheet). z .forbidden) (r .0))
+    ∙ ap (λ (u : Table). heldForbidden u (guestThree forbidden)) after in
     let count = small-facts _ _ (search needs) (n .count .ensures .0) ∙ ap (facts 64) after in
     (c .judged .ensures ∙ ap₂ judgment held count ∙ sym (judged-outcome xs t full ok), after ∙ sym (left xs t full ok))
 
