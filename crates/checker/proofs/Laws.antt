@@ -61,7 +61,7 @@ module _ (given : List ℕ) {wide : Bool} {file types flags masks formals : List
       let s = readFile (labels wide) file .sheet in
       let p = programOf (readFile (labels wide) file) in
       let used : Used wide o (tells wide (rules (labels wide) p)) t t u grew =
-          pass (known are lays returning) .uses t (λ q l h. h) (remembers-none (none keeps empty)) in
+      pass (known are lays returning) .uses t (λ q l h. h) (remembers-none (none keeps empty)) in
       cleaned-gap (rules (labels wide) p) (rules-fit (labels wide) file (five wide) ok) s (tableAt wide 0 given)
       (cleans s (declares s (are .types-are)))
       (subst (λ (x : ℕ). Used wide x (tells wide (rules (labels wide) p)) t t u grew) e used)

@@ -39,7 +39,18 @@ fn gap_by<'a>(
     let mut keeps = [0u64; 256];
     let o = rows::word_count(wide);
     passes::pass(
-        t, o, wide, &host, types, formals, &first, &second, &third, &fourth, &mut keeps, file,
+        t,
+        o,
+        wide,
+        &host,
+        types,
+        formals,
+        &first,
+        &second,
+        &third,
+        &fourth,
+        &mut keeps,
+        file,
     );
     cleaning::lowest_grown(t, wide)
 }

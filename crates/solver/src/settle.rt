@@ -49,7 +49,18 @@ pub fn settle<'a>(
     while again {
         kept::forget(&mut keeps, wide);
         again = passes::pass(
-            t, 0, wide, &host, types, formals, &first, &second, &third, &fourth, &mut keeps, file,
+            t,
+            0,
+            wide,
+            &host,
+            types,
+            formals,
+            &first,
+            &second,
+            &third,
+            &fourth,
+            &mut keeps,
+            file,
         );
         passes = one_more(passes);
         search_on(

@@ -10,8 +10,7 @@ use Rattle.checker.proofs.lowest_gap.Tie as tie
 gap-by-requires : tie.Need-gap-by-requires
 gap-by-requires c κs =
     let start = c .before .before .before .before .before .before .before .before .before in
-    let e = sym (start .pre .3) in
-    (
+    let e = sym (start .pre .3) in (
       search needs,
       search needs,
       start .pre .2,

@@ -20,8 +20,7 @@ settle-requires : tie.Need-settle-requires
 settle-requires c κs =
     let start = c .before .before .before .before .before .before .before .before .before .before .before .before in
     let cleared = c .before .before .before .before .before .before .before .before .clear .ensures in
-    let same = start .pre .2 in
-    (
+    let same = start .pre .2 in (
       rw (cleared .same-length) (start .pre .0),
       start .pre .1,
       record {

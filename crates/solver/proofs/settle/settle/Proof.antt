@@ -35,7 +35,7 @@ collect-requires : tie.Need-collect-requires Inv-loop μ-loop
 collect-requires c κs = (c .before .before .before .before .before .before .before .before .pre .1, refl, refl, refl, refl)
 
 loop-holds : tie.Need-loop-holds Inv-loop μ-loop
-loop-holds c = 
+loop-holds c =
     let start = c .before .before .before .before .before .before .before .before .before in
     record {
       solving = solving-start (rules (labels (start .args .wide)) (programIn (start .args .wide) (start .args .file .now)))
@@ -47,7 +47,7 @@ forget-requires : tie.Need-forget-requires Inv-loop μ-loop
 forget-requires c κs = search needs
 
 pass-requires : tie.Need-pass-requires Inv-loop μ-loop
-pass-requires c κs = 
+pass-requires c κs =
     let loop = c .before .before .before .before .before .before .before .before .before .before in
     let start = loop .before .before .before .before .before .before .before .before .before .before in
     (record { room = rw (reached-length (loop .loop .inv .solving .reached)) (omega (arith, start .pre .0)); apart = inl refl }, start .pre .1)
@@ -59,11 +59,10 @@ is-worth-requires : tie.Need-is-worth-requires Inv-loop μ-loop
 is-worth-requires c κs = search needs
 
 search-on-requires : tie.Need-search-on-requires Inv-loop μ-loop
-search-on-requires c κs = 
+search-on-requires c κs =
     let loop = c .before .before .before .before .before .before .before .before .before .before .before .before .before .before .before .before .before .before .before .before .before .before in
     let start = loop .before .before .before .before .before .before .before .before .before .before in
-    let known-here = known (start .pre .2) (loop .before .before .before .before .before .before .lay .ensures) (loop .before .collect .ensures) in
-    (
+    let known-here = known (start .pre .2) (loop .before .before .before .before .before .before .lay .ensures) (loop .before .collect .ensures) in (
       record {
         room = rw (passed-length (c .before .before .before .before .before .before .before .before .before .before .before .before .before .before .before .before .before .before .before .forget .ensures) (c .before .before .before .before .before .before .before .before .before .before .before .pass .ensures known-here) (loop .loop .inv) ∙ reached-length (loop .loop .inv .solving .reached)) (omega (arith, start .pre .0));
         apart = inl refl;
@@ -72,7 +71,7 @@ search-on-requires c κs =
     )
 
 loop-less : tie.Need-loop-less Inv-loop μ-loop
-loop-less c = 
+loop-less c =
     let loop = c .before .before .before .before .before .before .before .before .before .before .before .before .before .before .before .before .before .before .before .before .before .before .before .before .before in
     let start = loop .before .before .before .before .before .before .before .before .before .before in
     let known-here = known (start .pre .2) (loop .before .before .before .before .before .before .lay .ensures) (loop .before .collect .ensures) in
@@ -80,7 +79,7 @@ loop-less c =
     (c .before .before .search-on .ensures .0 known-here) (c .before .before .search-on .ensures .1) (c .before .before .before .before .before .before .before .before .before .before .is-worth .ensures) (loop .loop .inv) (c .before .before .before .before .before .before .before .before .before .before .before .before .before .before .before .before .before .before .before .before .before .before .before .before .loop-test .taken)
 
 loop-again : tie.Need-loop-again Inv-loop μ-loop
-loop-again c = 
+loop-again c =
     let loop = c .before .before .before .before .before .before .before .before .before .before .before .before .before .before .before .before .before .before .before .before .before .before .before .before .before in
     let start = loop .before .before .before .before .before .before .before .before .before .before in
     let known-here = known (start .pre .2) (loop .before .before .before .before .before .before .lay .ensures) (loop .before .collect .ensures) in
@@ -91,7 +90,7 @@ same-length : tie.Need-same-length Inv-loop μ-loop
 same-length c = reached-length (c .before .loop .inv .solving .reached)
 
 returns : tie.Need-returns Inv-loop μ-loop
-returns c = 
+returns c =
     let loop = c .before in
     let start = loop .before .before .before .before .before .before .before .before .before .before in
     let L = labels (start .args .wide) in
