@@ -1,9 +1,10 @@
 -- The verdict's outcome and table, case by case as the operation meets them. Assumes nothing.
-use mathlib.Core.Path.{_≡_, refl, ap, _∙_}
+use mathlib.Core.Path.{_≡_, refl, sym, ap, ap₂, _∙_}
+use mathlib.Core.Bool.{false}
 use mathlib.Core.List.{List, _++_}
 use Prim.Native.Nat.{ℕ, _≤_, _<_}
 use native.Mathlib.Omega.{arith}
-use lib.ListN.{length, drop, List·getD-append}
+use lib.ListN.{length, getD, drop, List·getD-append}
 use lib.Bits.{bitAnd}
 use lib.Count.{trailingZeros}
 use borrow.Author.Tests.{le-ltb, lt-ltb, eq-eqb, ne-eqb}
@@ -21,8 +22,35 @@ use Rattle.verdicts.specs.Verdict.{verdictOutcome, verdictTable, judged, forbid
 use Rattle.verdicts.specs.Check.{cleaned, checked, checkOutcome}
 use Rattle.verdicts.proofs.Accept.{admitted-readable}
 use Rattle.verdicts.proofs.Demand.{verdict-judged, table-left}
-use Rattle.views.specs.Arrays.{guestOf}
+use Rattle.sets.specs.Value.{value, wordsOf}
+use Rattle.sets.specs.declared.Set.{Set}
+use Rattle.lent.specs.Table.{tableAt}
+use Rattle.whole.proofs.Narrow.{number-one, narrow-whole, narrow-word, narrow-facts}
+use Rattle.passes.specs.Order.{guestThree}
+use Rattle.solver.specs.Solved.{Solved}
 use Rattle.pezvoran.specs.Judgment.{judgment}
+
+-- ---- the edition of 64 labels in words
+
+-- a set is its first word
+small-value : (s : Set) → value false s ≡ s .a
+unfolding value
+small-value s = number-one (wordsOf s) 0
+
+-- the forbidden labels that the guest holds, w all that are forbidden
+pub small-held : (u : List ℕ) (s f : Set) (w : ℕ) → value false s ≡ bitAnd (getD (tableAt false 0 u) 1 0) (value false f) → value false f ≡ w
+    → s .a ≡ heldForbidden u (guestThree w)
+unfolding heldForbidden
+small-held u s f w e is = sym (small-value s) ∙ e ∙ ap₂ bitAnd (narrow-word u 1 (omega arith)) is
+
+pub small-facts : (u : List ℕ) (n : ℕ) → 2432 ≤ length u → n ≡ facts 64 (tableAt false 0 u) → n ≡ facts 64 u
+small-facts u n h e = e ∙ narrow-facts u h
+
+-- the least table, and the words beyond it as they were
+pub small-solved : (xs t u : List ℕ) → 2432 ≤ length t → Solved false xs t u → u ≡ leastTable 64 (programIn 64 xs) ++ drop 2432 t
+small-solved xs t u h solved = narrow-whole t u (leastTable 64 (programIn 64 xs)) h (solved .same-length) (solved .least) (solved .beyond)
+
+-- ---- the verdict
 
 module _ (xs : List ℕ) (t : Table) where
   pub short-outcome : length t < 2432 → verdictOutcome 64 (length t) xs ≡ refused 8 0
@@ -53,12 +81,12 @@ module _ (xs : List ℕ) (t : Table) where
       long = table-length 64 (programIn 64 xs) (readable-proper 64 xs five ok)
 
       judged-is : judged 64 (programIn 64 xs)
-          ≡ judgment (heldForbidden (leastTable 64 (programIn 64 xs)) (guestOf (readFile 64 xs .sheet .forbidden))) (facts 64 (leastTable 64 (programIn 64 xs)))
+          ≡ judgment (heldForbidden (leastTable 64 (programIn 64 xs)) (guestThree (readFile 64 xs .sheet .forbidden))) (facts 64 (leastTable 64 (programIn 64 xs)))
       unfolding judged forbiddenHeld programOf
       judged-is = refl
 
-      held-left : heldForbidden (leastTable 64 (programIn 64 xs) ++ drop 2432 t) (guestOf (readFile 64 xs .sheet .forbidden))
-          ≡ heldForbidden (leastTable 64 (programIn 64 xs)) (guestOf (readFile 64 xs .sheet .forbidden))
+      held-left : heldForbidden (leastTable 64 (programIn 64 xs) ++ drop 2432 t) (guestThree (readFile 64 xs .sheet .forbidden))
+          ≡ heldForbidden (leastTable 64 (programIn 64 xs)) (guestThree (readFile 64 xs .sheet .forbidden))
       unfolding heldForbidden
       held-left =
           ap (λ (w : ℕ). bitAnd w (readFile 64 xs .sheet .forbidden))
@@ -67,7 +95,7 @@ module _ (xs : List ℕ) (t : Table) where
       -- what is held and counted in the table that is left
       pub judged-outcome : verdictOutcome 64 (length t) xs
           ≡ judgment
-          (heldForbidden (leastTable 64 (programIn 64 xs) ++ drop 2432 t) (guestOf (readFile 64 xs .sheet .forbidden)))
+          (heldForbidden (leastTable 64 (programIn 64 xs) ++ drop 2432 t) (guestThree (readFile 64 xs .sheet .forbidden)))
           (facts 64 (leastTable 64 (programIn 64 xs) ++ drop 2432 t))
       judged-outcome =
           rw (held-left, facts-append 64 (leastTable 64 (programIn 64 xs)) (drop 2432 t) (omega (arith, long)))
@@ -98,11 +126,11 @@ module _ (xs : List ℕ) (t : Table) where
       check-gap h = check-read ∙ rw (lt-ltb _ _ h)
 
       module _ (none : 2432 ≤ lowestGap) where
-        pub check-clear : heldForbidden t (guestOf (readFile 64 xs .sheet .forbidden)) ≡ 0 → checkOutcome 64 xs t ≡ accepted 0
+        pub check-clear : heldForbidden t (guestThree (readFile 64 xs .sheet .forbidden)) ≡ 0 → checkOutcome 64 xs t ≡ accepted 0
         unfolding checked programOf forbiddenHeld
         check-clear e = check-read ∙ rw (le-ltb _ _ none, eq-eqb _ _ e)
 
-        pub check-held : (heldForbidden t (guestOf (readFile 64 xs .sheet .forbidden)) ≡ 0 → ⊥)
-            → checkOutcome 64 xs t ≡ holds (trailingZeros 64 (heldForbidden t (guestOf (readFile 64 xs .sheet .forbidden)))) 3
+        pub check-held : (heldForbidden t (guestThree (readFile 64 xs .sheet .forbidden)) ≡ 0 → ⊥)
+            → checkOutcome 64 xs t ≡ holds (trailingZeros 64 (heldForbidden t (guestThree (readFile 64 xs .sheet .forbidden)))) 3
         unfolding checked programOf forbiddenHeld
         check-held e = check-read ∙ rw (le-ltb _ _ none, ne-eqb _ _ e)

@@ -38,16 +38,16 @@ pub fn judge(file: &[u8], table: &mut [u64]) -> Answer
     if table.len() < 2432 {
         return Answer::Refused(8, 0);
     }
-    let r = reader::read(file);
+    let r = reader::read(file, false);
     let no = r.refusal;
     let at = r.position;
     if no != 0 {
         return Answer::Refused(no, at);
     }
     let sheet = r.sheet;
-    solver::solve(file, sheet, table);
-    let held = solver::table::held(table, sheet.forbidden);
-    judged(held, solver::table::count(table))
+    solver::solve(file, sheet, false, table);
+    let held = whole::held(table, false, sheet.forbidden);
+    judged(held.a, whole::count(table, false))
 }
 
 // The verdict, for C: see `packed` in the crate answer for the word.
@@ -66,22 +66,22 @@ pub fn examine(file: &[u8], table: &[u64]) -> Answer
     if table.len() < 2432 {
         return Answer::Refused(8, 0);
     }
-    let r = reader::read(file);
+    let r = reader::read(file, false);
     let no = r.refusal;
     let at = r.position;
     if no != 0 {
         return Answer::Refused(no, at);
     }
     let sheet = r.sheet;
-    let gap = checker::lowest_gap(file, sheet, table);
+    let gap = checker::check_small(file, sheet, table);
     if gap < 2432 {
         return Answer::Refused(10, gap);
     }
-    let held = solver::table::held(table, sheet.forbidden);
-    if held == 0 {
+    let held = whole::held(table, false, sheet.forbidden);
+    if held.a == 0 {
         return Answer::Accepted(0);
     }
-    Answer::Holds(lowest_label(held), GUEST)
+    Answer::Holds(lowest_label(held.a), GUEST)
 }
 
 // The check, for C.

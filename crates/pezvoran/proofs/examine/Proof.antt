@@ -5,10 +5,8 @@ use native.Mathlib.Omega.{arith}
 use lib.Count.{trailingZeros}
 use Rattle.format.specs.Sheet.{Sheet}
 use Rattle.format.specs.Reading.{readFile}
-use Rattle.analysis.specs.Verdict.{heldForbidden}
 use Rattle.answer.specs.Outcome.{refused, holds}
-use Rattle.views.specs.Arrays.{guestOf}
-use Rattle.pezvoran.proofs.Laws.{check-short, check-refused, check-gap, check-clear, check-held}
+use Rattle.pezvoran.proofs.Laws.{small-held, check-short, check-refused, check-gap, check-clear, check-held}
 use borrow.Author.Needs.{needs}
 use Rattle.pezvoran.proofs.examine.Statement.{statement}
 use Rattle.pezvoran.proofs.examine.Tie as tie
@@ -31,8 +29,8 @@ returns-2 c =
     let z : readFile 64 xs .refusal ≡ 0 → ⊥ = (λ q. c .if2 .taken (r .1 .0 ∙ q)) in
     ap₂ refused (r .1 .0) (r .1 .1) ∙ sym (check-refused xs t full z)
 
-lowest-gap-requires : tie.Need-lowest-gap-requires
-lowest-gap-requires c κs = search needs
+check-small-requires : tie.Need-check-small-requires
+check-small-requires c κs = search needs
 
 returns-3 : tie.Need-returns-3
 returns-3 c =
@@ -43,7 +41,7 @@ returns-3 c =
     let r = e .before .read .ensures in
     let full = e .before .before .if1 .left in
     let ok : readFile 64 xs .refusal ≡ 0 = sym (r .1 .0) ∙ e .if2 .left in
-    let g = c .before .lowest-gap .ensures in
+    let g = c .before .check-small .ensures in
     let low = c .if3 .taken in
     ap (refused 10) g ∙ sym (check-gap xs t full ok (omega (arith, g)))
 
@@ -52,16 +50,17 @@ held-requires c κs = search needs
 
 returns-4 : tie.Need-returns-4
 returns-4 c =
-    let e = c .before .before .before .before .before in
+    let h = c .before .before in
+    let e = h .before .before .before .before in
     let a = e .before .before .before .before .before .args in
     let xs = a .file .now in
     let t = a .table .now in
     let r = e .before .read .ensures in
     let full = e .before .before .if1 .left in
     let ok : readFile 64 xs .refusal ≡ 0 = sym (r .1 .0) ∙ e .if2 .left in
-    let g = c .before .before .before .lowest-gap .ensures in
-    let high = c .before .before .if3 .left in
-    let held = c .before .held .ensures ∙ ap (λ (s : Sheet). heldForbidden t (guestOf (s .forbidden))) (r .0) in
+    let g = h .before .before .check-small .ensures in
+    let high = h .before .if3 .left in
+    let held = small-held t (h .held .result) _ (readFile 64 xs .sheet .forbidden) (h .held .ensures) (ap (λ (s : Sheet). s .forbidden) (r .0)) in
     sym (check-clear xs t full ok (omega (arith, g)) (sym held ∙ c .if4 .taken))
 
 lowest-label-requires : tie.Need-lowest-label-requires
@@ -69,16 +68,17 @@ lowest-label-requires c κs = search needs
 
 returns-5 : tie.Need-returns-5
 returns-5 c =
-    let e = c .before .before .before .before .before .before in
+    let h = c .before .before .before in
+    let e = h .before .before .before .before in
     let a = e .before .before .before .before .before .args in
     let xs = a .file .now in
     let t = a .table .now in
     let r = e .before .read .ensures in
     let full = e .before .before .if1 .left in
     let ok : readFile 64 xs .refusal ≡ 0 = sym (r .1 .0) ∙ e .if2 .left in
-    let g = c .before .before .before .before .lowest-gap .ensures in
-    let high = c .before .before .before .if3 .left in
-    let held = c .before .before .held .ensures ∙ ap (λ (s : Sheet). heldForbidden t (guestOf (s .forbidden))) (r .0) in
+    let g = h .before .before .check-small .ensures in
+    let high = h .before .if3 .left in
+    let held = small-held t (h .held .result) _ (readFile 64 xs .sheet .forbidden) (h .held .ensures) (ap (λ (s : Sheet). s .forbidden) (r .0)) in
     let label = c .lowest-label .ensures ∙ ap (trailingZeros 64) held in
     ap (λ (l : ℕ). holds l 3) label ∙ sym (check-held xs t full ok (omega (arith, g)) (λ z. c .before .if4 .left (held ∙ z)))
 
@@ -89,7 +89,7 @@ examine-spec =
     returns
     read-requires
     returns-2
-    lowest-gap-requires
+    check-small-requires
     returns-3
     held-requires
     returns-4

@@ -6,9 +6,9 @@ use Rattle.format.specs.Sheet.{Sheet}
 use Rattle.format.specs.Reading.{readFile}
 use Rattle.analysis.specs.Verdict.{heldForbidden}
 use Rattle.answer.specs.Outcome.{refused}
-use Rattle.views.specs.Arrays.{guestOf}
+use Rattle.passes.specs.Order.{guestThree}
 use Rattle.pezvoran.specs.Judgment.{judgment}
-use Rattle.pezvoran.proofs.Laws.{short-outcome, short-table, refused-outcome, refused-table, judged-outcome, left}
+use Rattle.pezvoran.proofs.Laws.{small-held, small-facts, small-solved, short-outcome, short-table, refused-outcome, refused-table, judged-outcome, left}
 use borrow.Author.Needs.{needs}
 use Rattle.pezvoran.proofs.judge.Statement.{statement}
 use Rattle.pezvoran.proofs.judge.Tie as tie
@@ -48,7 +48,9 @@ same-length c = search needs
 
 returns-3 : tie.Need-returns-3
 returns-3 c =
-    let s = c .before .before .before .before .before .before .before in
+    let n = c .before in
+    let h = n .before .before in
+    let s = h .before .before .before .before in
     let e = s .before .before .before in
     let a = e .before .before .before .before .before .args in
     let xs = a .file .now in
@@ -56,9 +58,12 @@ returns-3 c =
     let r = e .before .read .ensures in
     let full = e .before .before .if1 .left in
     let ok : readFile 64 xs .refusal ≡ 0 = sym (r .1 .0) ∙ e .if2 .left in
-    let after = s .solve .ensures in
-    let held = c .before .before .before .held .ensures ∙ ap₂ (λ (u : Table) (w : ℕ). heldForbidden u (guestOf w)) after (ap (λ (z : Sheet). z .forbidden) (r .0)) in
-    let count = c .before .count .ensures ∙ ap (facts 64) after in
+    let forbidden = readFile 64 xs .sheet .forbidden in
+    let after = small-solved xs t _ full (s .solve .ensures) in
+    let held =
+        small-held _ (h .held .result) _ forbidden (h .held .ensures) (ap (λ (z : Sheet). z .forbidden) (r .0))
+        ∙ ap (λ (u : Table). heldForbidden u (guestThree forbidden)) after in
+    let count = small-facts _ _ (search needs) (n .count .ensures .0) ∙ ap (facts 64) after in
     (c .judged .ensures ∙ ap₂ judgment held count ∙ sym (judged-outcome xs t full ok), after ∙ sym (left xs t full ok))
 
 pub judge-spec : {M : Type 1} → statement M
