@@ -20,7 +20,9 @@ use rows::Var;
 
 // The guest's label, its bag, and its key: every name.
 const GUEST: Label = Label(3);
+
 const BAG: Var = Var(1);
+
 const EVERY_NAME: u8 = 128;
 
 // A call of the guest: its bag in every place.
@@ -81,7 +83,17 @@ pub fn guest(
     let mut i: usize = 0;
     while i < 8 {
         let more = apply::apply(
-            t, o, wide, host, formals, first, second, third, fourth, keeps, statement(i),
+            t,
+            o,
+            wide,
+            host,
+            formals,
+            first,
+            second,
+            third,
+            fourth,
+            keeps,
+            statement(i),
         );
         grew = grew | more;
         i += 1;

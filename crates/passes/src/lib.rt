@@ -38,7 +38,16 @@ pub fn lines(
     let chains = chain_lines(t, o, wide, types, keeps);
     let prototypes = guest_line(t, o, wide, GUEST);
     let said = guest(
-        t, o, wide, host, formals, first, second, third, fourth, keeps,
+        t,
+        o,
+        wide,
+        host,
+        formals,
+        first,
+        second,
+        third,
+        fourth,
+        keeps,
     );
     chains | (prototypes | said)
 }
@@ -62,10 +71,30 @@ pub fn pass(
     ensures { λ grew. ⌜ (Known wide (programOf (readFile (labels wide) (now (file .entry)))) (now (host .entry)) (now (types .entry)) (now (formals .entry)) (record { first = now (first .entry); second = now (second .entry); third = now (third .entry); fourth = now (fourth .entry) }) → PassOf wide o (now (file .entry)) (now (t .entry)) (now (keeps .entry)) (now (t .exit)) (now (keeps .exit)) grew) ⌝ }
 {
     let a = lines(
-        t, o, wide, host, types, formals, first, second, third, fourth, keeps,
+        t,
+        o,
+        wide,
+        host,
+        types,
+        formals,
+        first,
+        second,
+        third,
+        fourth,
+        keeps,
     );
     let b = host_rules(
-        t, o, wide, host, formals, first, second, third, fourth, keeps, file,
+        t,
+        o,
+        wide,
+        host,
+        formals,
+        first,
+        second,
+        third,
+        fourth,
+        keeps,
+        file,
     );
     a | b
 }

@@ -30,7 +30,17 @@ pub fn host_rules(
     while at < file.len() {
         let s = records::statement_at(wide, file, at);
         let more = apply::apply(
-            t, o, wide, host, formals, first, second, third, fourth, keeps, s,
+            t,
+            o,
+            wide,
+            host,
+            formals,
+            first,
+            second,
+            third,
+            fourth,
+            keeps,
+            s,
         );
         grew = grew | more;
         at = records::after(wide, file, at);

@@ -1,5 +1,5 @@
 // Variables, labels and names are each a kind to themselves, and the rows of the table are computed from them. The contracts equate
-// each row with its number in specs/Row.antt, for the edition of 64 labels.
+// each row with its number in specs/Row.antt, for the edition of 64 labels or of 256.
 ghost use mathlib.Core.Path.{_≡_};
 ghost use Prim.Native.Nat.{_*_, _<_, _≤_};
 ghost use Rattle.rows.specs.Row.{variable, property, chain, thrown, number, rowCount};
@@ -8,7 +8,7 @@ ghost use Rattle.rows.specs.Edition.{labels, words};
 // The number of a variable, 0 to 255.
 pub struct Var(pub u8);
 
-// The number of a label, below 64.
+// The number of a label, below 64 or 256.
 pub struct Label(pub u8);
 
 // The number of a name, below 32.
@@ -25,33 +25,6 @@ impl Var {
 }
 
 impl Label {
-    // The row of H(l, n).
-    pub fn property_row(self, n: Name) -> usize
-        requires { ⌜ (self .0 < 64) × (n .0 < 32) ⌝ }
-        ensures { λ r. ⌜ r ≡ number 64 (property (self .0) (n .0)) ⌝ }
-        ensures bound { λ r. ⌜ r < rowCount 64 ⌝ }
-    {
-        256 + 32 * (self.0 as usize) + (n.0 as usize)
-    }
-
-    // The row of P(l).
-    pub fn chain_row(self) -> usize
-        requires { ⌜ self .0 < 64 ⌝ }
-        ensures { λ r. ⌜ r ≡ number 64 (chain (self .0)) ⌝ }
-        ensures bound { λ r. ⌜ r < rowCount 64 ⌝ }
-    {
-        2304 + (self.0 as usize)
-    }
-
-    // The row of T(k), where k is this label's scope.
-    pub fn thrown_row(self) -> usize
-        requires { ⌜ self .0 < 64 ⌝ }
-        ensures { λ r. ⌜ r ≡ number 64 (thrown (self .0)) ⌝ }
-        ensures bound { λ r. ⌜ r < rowCount 64 ⌝ }
-    {
-        2368 + (self.0 as usize)
-    }
-
     // The row of H(l, n).
     pub fn property(self, n: Name) -> usize
         requires { ⌜ n .0 < 32 ⌝ }

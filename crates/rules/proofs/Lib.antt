@@ -7,11 +7,6 @@ pub mod Join
 pub mod Round
 pub mod Least
 pub mod Derive
-pub mod Sweep
-pub mod Resumes
-pub mod Loop
 pub mod Gap
-pub mod Find
 pub mod Premises
 pub mod Beyond
-pub mod Resume

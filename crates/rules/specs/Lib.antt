@@ -5,4 +5,3 @@ pub mod Told
 pub mod Round
 pub mod Gap
 pub mod Premises
-pub mod Sweep

@@ -1,21 +1,26 @@
 // Whole passes until one adds nothing.
 ghost use mathlib.Core.Path.{_≡_};
-ghost use Prim.Native.Nat.{ℕ, _≤_};
-ghost use lib.ListN.{length, take};
+ghost use mathlib.Core.Bool.{false};
+ghost use Prim.Native.Nat.{_≤_};
+ghost use lib.ListN.{length};
 ghost use Rattle.rows.specs.Edition.{labels};
 ghost use Rattle.rules.specs.Table.{emptyTable};
-ghost use Rattle.rules.specs.Round.{leastAbove};
-ghost use Rattle.format.specs.Reading.{readFile, Readable};
-ghost use Rattle.analysis.specs.Rules.{rules};
-ghost use Rattle.uses.specs.Use.{tells, Reached};
+ghost use Rattle.format.specs.Reading.{Readable};
+ghost use Rattle.passes.specs.Arrays.{Arrays};
 ghost use Rattle.lent.specs.Table.{wordCount, tableAt};
-ghost use Rattle.solver.specs.Steps.{programIn};
-ghost use Rattle.solver.specs.Settled.{Arrays, Settled};
+ghost use Rattle.solver.specs.Settled.{Settled};
 use crate::turns::search_on;
 
 // One pass more, up to 4: an ordinary file is settled before that, and the search is not worth while.
 fn one_more(passes: u8) -> u8 {
     if passes < 4 { passes + 1 } else { passes }
+}
+
+// Whether the search is worth while.
+fn is_worth(again: bool, passes: u8) -> bool
+    ensures { λ r. ⌜ (again ≡ false → r ≡ false) ⌝ }
+{
+    if again { passes == 4 } else { false }
 }
 
 // The least table above one without facts.
@@ -44,11 +49,22 @@ pub fn settle<'a>(
     while again {
         kept::forget(&mut keeps, wide);
         again = passes::pass(
-            t, 0, wide, &host, types, formals, &first, &second, &third, &fourth, &mut keeps, file,
+            t,
+            0,
+            wide,
+            &host,
+            types,
+            formals,
+            &first,
+            &second,
+            &third,
+            &fourth,
+            &mut keeps,
+            file,
         );
         passes = one_more(passes);
         search_on(
-            again & (passes == 4),
+            is_worth(again, passes),
             t,
             wide,
             file,

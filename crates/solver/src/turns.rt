@@ -45,13 +45,33 @@ fn use_at(
 {
     if at == LINES {
         return passes::lines(
-            t, 0, wide, host, types, formals, first, second, third, fourth, keeps,
+            t,
+            0,
+            wide,
+            host,
+            types,
+            formals,
+            first,
+            second,
+            third,
+            fourth,
+            keeps,
         );
     }
     if at < 32768 {
         let s = records::statement_at(wide, file, at);
         return apply::apply(
-            t, 0, wide, host, formals, first, second, third, fourth, keeps, s,
+            t,
+            0,
+            wide,
+            host,
+            formals,
+            first,
+            second,
+            third,
+            fourth,
+            keeps,
+            s,
         );
     }
     false
@@ -96,18 +116,46 @@ pub fn search_on(
     let mut queue = [0u16; 1024];
     let mut recent = [0u16; 512];
     let mut sizes = [0u16; 768];
-    search::index::index_file(wide, file, host, &mut low, &mut high, &mut index, &mut notes);
+    search::index::index_file(
+        wide,
+        file,
+        host,
+        &mut low,
+        &mut high,
+        &mut index,
+        &mut notes,
+    );
     let mut on = true;
     let mut turns: usize = 0;
     while on {
         let at = search::next::next(wide, t, file, host, &low, &high, &index, &queue, &mut notes);
         let grew = use_at(
-            t, wide, file, host, types, formals, first, second, third, fourth, keeps, at,
+            t,
+            wide,
+            file,
+            host,
+            types,
+            formals,
+            first,
+            second,
+            third,
+            fourth,
+            keeps,
+            at,
         );
         forget_if(grew, keeps, wide);
         let grown = grown_at(grew, at);
         let to = search::ends::ends_read(
-            wide, t, file, host, first, second, third, fourth, &notes, grown,
+            wide,
+            t,
+            file,
+            host,
+            first,
+            second,
+            third,
+            fourth,
+            &notes,
+            grown,
         );
         search::links::note_grown(
             wide,
@@ -124,7 +172,18 @@ pub fn search_on(
             to,
         );
         let over = search::rounds::begin_round(
-            wide, t, file, host, formals, first, second, third, fourth, &mut sizes, &recent, &mut notes,
+            wide,
+            t,
+            file,
+            host,
+            formals,
+            first,
+            second,
+            third,
+            fourth,
+            &mut sizes,
+            &recent,
+            &mut notes,
         );
         turns += 1;
         on = goes_on(over, turns);

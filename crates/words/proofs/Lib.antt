@@ -1,4 +1,3 @@
 pub mod Laws
 pub mod Bits
-pub mod Onward
 pub mod Taking

@@ -4,7 +4,7 @@ ghost use mathlib.Core.Path.{_≡_};
 ghost use Prim.Native.Nat.{_/_, _^_, _<_};
 ghost use lib.Bits.{bitAnd};
 ghost use lib.Count.{trailingZeros};
-ghost use Rattle.words.specs.Words.{bit, union, difference, countBelow, Next, Taken};
+ghost use Rattle.words.specs.Words.{bit, union, difference, countBelow, Taken};
 
 // The set that holds label l alone.
 pub fn single(l: usize) -> u64
@@ -69,21 +69,6 @@ pub fn lowest(x: u64) -> u32
     ensures { λ r. ⌜ r ≡ trailingZeros 64 x ⌝ }
 {
     u64::trailing_zeros(x)
-}
-
-// The same, as a loop over the labels needs it.
-pub fn first(x: u64) -> usize
-    ensures { λ r. ⌜ Next x 0 r ⌝ }
-{
-    whole(lowest(x))
-}
-
-// The set without its lowest label: what such a loop goes on with.
-pub fn rest(x: u64) -> u64
-    requires { ⌜ 0 < x ⌝ }
-    ensures { λ r. ⌜ r ≡ difference x (2 ^ trailingZeros 64 x) ⌝ }
-{
-    x & (x - 1)
 }
 
 // The lowest label of a set, and the set without it: a turn of a loop over the labels.

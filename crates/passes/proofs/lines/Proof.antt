@@ -9,7 +9,7 @@ chain-lines-requires : tie.Need-chain-lines-requires
 chain-lines-requires c κs = search needs
 
 guest-line-requires : tie.Need-guest-line-requires
-guest-line-requires c κs = 
+guest-line-requires c κs =
     let start = c .before .before .before .before .before .before .before in
     (record { room = search needs; apart = start .pre .apart }, three-labels (start .args .wide))
 
@@ -20,7 +20,7 @@ same-length : tie.Need-same-length
 same-length c = search needs
 
 returns : tie.Need-returns
-returns c = 
+returns c =
     let said = c .before .before in
     let line = said .before .before .before .before .before in
     let chains = line .before .before .before .before in

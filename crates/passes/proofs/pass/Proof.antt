@@ -8,7 +8,7 @@ lines-requires : tie.Need-lines-requires
 lines-requires c κs = search needs
 
 host-rules-requires : tie.Need-host-rules-requires
-host-rules-requires c κs = 
+host-rules-requires c κs =
     let start = c .before .before .before .before .before .before .before .before .before in
     (record { room = search needs; apart = start .pre .0 .apart }, start .pre .1)
 
@@ -16,7 +16,7 @@ same-length : tie.Need-same-length
 same-length c = search needs
 
 returns : tie.Need-returns
-returns c = 
+returns c =
     let records = c .before .before in
     let lines = records .before .before .before .before .before in
     let start = lines .before .before .before .before .before in

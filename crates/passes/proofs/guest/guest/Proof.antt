@@ -30,7 +30,7 @@ statement-requires : tie.Need-statement-requires Inv-loop μ-loop
 statement-requires c κs = search needs
 
 apply-requires : tie.Need-apply-requires Inv-loop μ-loop
-apply-requires c κs = 
+apply-requires c κs =
     let loop = c .before .before .before .before in
     let start = loop .before .before in
     (rw (loop .loop .inv .0) (start .pre), c .statement .ensures .1 (start .args .wide))
@@ -42,12 +42,11 @@ loop-less : tie.Need-loop-less Inv-loop μ-loop
 loop-less c = search needs
 
 loop-again : tie.Need-loop-again Inv-loop μ-loop
-loop-again c = 
+loop-again c =
     let turn = c .before .before in
     let said = turn .before in
     let loop = said .before .before .before .before in
-    let start = loop .before .before in
-    (
+    let start = loop .before .before in (
       search needs,
       search needs,
       λ p lays formals returning. guest-turn p (loop .loop .i) (said .statement .result) (search needs) (start .pre .apart) (loop .loop .inv .2 p lays formals returning)
@@ -58,7 +57,7 @@ same-length : tie.Need-same-length Inv-loop μ-loop
 same-length c = search needs
 
 returns : tie.Need-returns Inv-loop μ-loop
-returns c = 
+returns c =
     let loop = c .before in
     let e : loop .loop .i ≡ 8 = omega (arith, loop .loop .inv .1, c .loop-test .left) in
     λ p lays formals returning. applies-same (every (take 8 (guestList p))) _ (ap every (sym (guest-all p))) (rw (← e) (loop .loop .inv .2 p lays formals returning))

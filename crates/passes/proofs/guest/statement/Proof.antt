@@ -45,7 +45,7 @@ returns-7 : tie.Need-returns-7
 returns-7 c = said-at 6 (Throw label bag) (c .match .keys7) (record { rule = λ p. refl; bounded = λ wide. three-labels wide })
 
 returns-8 : tie.Need-returns-8
-returns-8 c = 
+returns-8 c =
     let e = last-one (c .before .args .i) (c .before .pre) (search needs) (search needs) (search needs) (search needs) (search needs) (search needs) (search needs) in
     said-at 7 (Catch label bag) e (record { rule = λ p. refl; bounded = λ wide. three-labels wide })
 

@@ -25,38 +25,37 @@ loop-holds : tie.Need-loop-holds Inv-loop μ-loop
 loop-holds c = (refl, walked-start (c .before .before .pre .1))
 
 statement-at-requires : tie.Need-statement-at-requires Inv-loop μ-loop
-statement-at-requires c κs = 
+statement-at-requires c κs =
     let loop = c .before in
     let start = loop .before .before .before in
     (loop .loop .inv .1 .walk, search needs, readable-read (labels (start .args .wide)) (start .args .file .now) (start .pre .1) .short)
 
 apply-requires : tie.Need-apply-requires Inv-loop μ-loop
-apply-requires c κs = 
+apply-requires c κs =
     let said = c .before .before in
     let loop = said .before .before in
     let start = loop .before .before .before in
     (rw (loop .loop .inv .0) (start .pre .0), said .statement-at .ensures .1)
 
 after-requires : tie.Need-after-requires Inv-loop μ-loop
-after-requires c κs = 
+after-requires c κs =
     let loop = c .before .before .before .before .before .before .before in
     let start = loop .before .before .before in
     (loop .loop .inv .1 .walk, search needs, readable-read (labels (start .args .wide)) (start .args .file .now) (start .pre .1) .short)
 
 loop-less : tie.Need-loop-less Inv-loop μ-loop
-loop-less c = 
+loop-less c =
     let test = c .before .before .before .before .before .before .before in
     let loop = test .before in
     omega (arith, c .after .ensures, test .loop-test .taken)
 
 loop-again : tie.Need-loop-again Inv-loop μ-loop
-loop-again c = 
+loop-again c =
     let turn = c .before .before .before in
     let said = turn .before .before .before in
     let test = said .before in
     let loop = test .before in
-    let start = loop .before .before .before in
-    (
+    let start = loop .before .before .before in (
       search needs,
       walked-next (start .pre .0 .apart) (test .loop-test .taken) (c .after .ensures) (loop .loop .inv .1)
           (λ p known. applies-same _ _ (said .statement-at .ensures .0 p) (turn .apply .ensures p (known .0) (known .1) (known .2))),
@@ -66,7 +65,7 @@ same-length : tie.Need-same-length Inv-loop μ-loop
 same-length c = search needs
 
 returns : tie.Need-returns Inv-loop μ-loop
-returns c = 
+returns c =
     let loop = c .before in
     λ p lays formals returning. walked-end (c .loop-test .left) (loop .loop .inv .1) p (lays, formals, returning)
 

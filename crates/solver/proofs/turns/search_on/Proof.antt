@@ -35,7 +35,7 @@ returns : tie.Need-returns Inv-loop μ-loop
 returns c = (λ known. steps-none, λ e. refl)
 
 index-file-requires : tie.Need-index-file-requires Inv-loop μ-loop
-index-file-requires c κs = 
+index-file-requires c κs =
     let start = c .before .before .before .before .before .before .before in
     (start .pre .1, readable-read (labels (start .args .wide)) (start .args .file .now) (start .pre .1) .short, zero-at 256, zero-at 256)
 
@@ -43,13 +43,13 @@ loop-holds : tie.Need-loop-holds Inv-loop μ-loop
 loop-holds c = (refl, λ e. omega arith, λ known. steps-none)
 
 next-requires : tie.Need-next-requires Inv-loop μ-loop
-next-requires c κs = 
+next-requires c κs =
     let loop = c .before .before .before .before .before .before .before in
     let start = loop .before .before .before .before .before .before .before .before .before in
     rw (loop .loop .inv .0) (read-room (start .args .wide) (start .pre .0))
 
 use-at-requires : tie.Need-use-at-requires Inv-loop μ-loop
-use-at-requires c κs = 
+use-at-requires c κs =
     let next = c .before .before in
     let loop = next .before .before .before .before .before .before .before .before in
     let start = loop .before .before .before .before .before .before .before .before .before in
@@ -71,7 +71,7 @@ begin-round-requires : tie.Need-begin-round-requires Inv-loop μ-loop
 begin-round-requires c κs = room-after (c .before .before .before .before .before .before .before .before .before .before .before .before .before .before .before .before .before .before .before)
 
 add-turns : tie.Need-add-turns Inv-loop μ-loop
-add-turns c = 
+add-turns c =
     let loop = c .before .before .before .before .before .before .before .before .before .before .before .before .before .before .before .before .before .before .before .before .before .before .before .before .before .before .before .before .before .before .before in
     omega (arith, loop .loop .inv .1 (c .before .before .before .before .before .before .before .before .before .before .before .before .before .before .before .before .before .before .before .before .before .before .before .before .before .before .before .before .before .before .loop-test .taken))
 
@@ -79,16 +79,15 @@ goes-on-requires : tie.Need-goes-on-requires Inv-loop μ-loop
 goes-on-requires c κs = search needs
 
 loop-less : tie.Need-loop-less Inv-loop μ-loop
-loop-less c = 
+loop-less c =
     let loop = c .before .before .before .before .before .before .before .before .before .before .before .before .before .before .before .before .before .before .before .before .before .before .before .before .before .before .before .before .before .before .before .before in
     omega (arith, loop .loop .inv .1 (c .before .before .before .before .before .before .before .before .before .before .before .before .before .before .before .before .before .before .before .before .before .before .before .before .before .before .before .before .before .before .before .loop-test .taken))
 
 loop-again : tie.Need-loop-again Inv-loop μ-loop
-loop-again c = 
+loop-again c =
     let forget = c .before .before .before .before .before .before .before .before .before .before .before .before .before .before .before .before .before in
     let turn = c .before .before .before .before .before .before .before .before .before .before .before .before .before .before .before .before .before .before .before .before .before in
-    let loop = c .before .before .before .before .before .before .before .before .before .before .before .before .before .before .before .before .before .before .before .before .before .before .before .before .before .before .before .before .before .before .before .before in
-    (
+    let loop = c .before .before .before .before .before .before .before .before .before .before .before .before .before .before .before .before .before .before .before .before .before .before .before .before .before .before .before .before .before .before .before .before in (
       turn .use-at .ensures .1 ∙ loop .loop .inv .0,
       c .goes-on .ensures,
       λ known. steps-on (loop .loop .inv .2 known) (steps-on (turn .use-at .ensures .0 known) (steps-forget (forget .forget-if .ensures))),
@@ -98,7 +97,7 @@ same-length : tie.Need-same-length Inv-loop μ-loop
 same-length c = c .before .loop .inv .0
 
 returns-2 : tie.Need-returns-2 Inv-loop μ-loop
-returns-2 c = 
+returns-2 c =
     let loop = c .before in
     (loop .loop .inv .2, λ e. went _ (loop .before .before .before .before .before .before .if1 .left) e)
 

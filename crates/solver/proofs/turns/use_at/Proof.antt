@@ -14,12 +14,12 @@ same-length : tie.Need-same-length
 same-length c = search needs
 
 returns : tie.Need-returns
-returns c = 
+returns c =
     let lines = c .before .before in
     (λ known. steps-lines (lines .lines .ensures _ known), search needs)
 
 statement-at-requires : tie.Need-statement-at-requires
-statement-at-requires c κs = 
+statement-at-requires c κs =
     let start = c .before .before .before .before in
     let named = start .pre .2 (c .if2 .taken) in
     (named .0, named .1, readable-read (labels (start .args .wide)) (start .args .file .now) (start .pre .1) .short)
@@ -31,7 +31,7 @@ same-length-2 : tie.Need-same-length-2
 same-length-2 c = search needs
 
 returns-2 : tie.Need-returns-2
-returns-2 c = 
+returns-2 c =
     let turn = c .before .before in
     let said = turn .before .before .before in
     let test = said .before in
