@@ -17,7 +17,7 @@ extern "C" {
    overlap. The answer is one word, to be read with the functions below.
 
    A call keeps nothing from one call to the next and takes no memory but the stack, so threads may call at the same time, each with a table of its
-   own. The stack that a call takes is the same for every file: 77,608 bytes for a verdict, 45,720 for a check, as measured (bench/RESULTS.md). A thread
+   own. The stack that a call takes is the same for every file: 53,320 bytes for a verdict, 75,016 for a check, as measured (bench/RESULTS.md). A thread
    with less dies; PEZVORAN_STACK_BYTES is what the tests give one. */
 
 /* The verdict: confined, leaks or refused. Unless it refuses, the first PEZVORAN_TABLE_WORDS words of the table become the finished table, whatever

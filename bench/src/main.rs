@@ -98,11 +98,17 @@ fn clingo() {
     table::print(&rows);
 }
 
-/// What both operations use of the stack, on an ordinary and on a dense file.
+/// What both operations use of the stack, on a file that needs many passes too.
 fn stack() {
     println!("## Stack\n");
     let mut rows = vec![["file", "verdict, bytes", "check, bytes"].map(str::to_string).to_vec()];
-    for (name, file) in [("empty", vec![]), ("ordinary", ordinary(LONGEST, 1)), ("dense", dense::dense(0, 1))] {
+    let files = [
+        ("empty", vec![]),
+        ("ordinary", ordinary(LONGEST, 1)),
+        ("dense", dense::dense(0, 1)),
+        ("worst case", worst(Shape::Longest, Filler::Mixed, true, 1)),
+    ];
+    for (name, file) in files {
         let mut lent = vec![0; pezvoran::TABLE_WORDS];
         let verdict = used_by(|| {
             pezvoran::verdict(&file, &mut lent);

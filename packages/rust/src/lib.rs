@@ -14,7 +14,7 @@
 //! ```
 //!
 //! Both operations take any bytes and any table, empty ones too. They keep nothing from one call to the next and take no memory but the stack, so threads
-//! may call them at the same time, each with a table of its own. The stack that a call takes is the same for every file: 77,608 bytes for a verdict, 45,720
+//! may call them at the same time, each with a table of its own. The stack that a call takes is the same for every file: 53,320 bytes for a verdict, 75,016
 //! for a check, as measured. A thread with less dies; one with [`STACK_BYTES`] does not. (What C has to see to, alignment and that file and table do not
 //! overlap, is in the types here.) The archive that `rt staticlib pezvoran` writes is linked in.
 
