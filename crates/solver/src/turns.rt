@@ -82,7 +82,7 @@ fn grown_at(grew: bool, at: usize) -> usize {
     if grew { at } else { END }
 }
 
-// More turns than this without a whole pass there never are; the bound is here so that the loop can be seen to end.
+// The most turns without a whole pass: a bound by which the loop is seen to end. A search that is cut off costs time and no answer, since a pass follows.
 const MOST: usize = 100000000;
 
 // The search: from what grew in the passes before until nothing that it finds grows any more. Nothing is done unless `go`.
