@@ -15,7 +15,7 @@ use Rattle.words.specs.Words.{union}
 use Rattle.rows.specs.Edition.{labels, words}
 use Rattle.rows.specs.Row.{rowCount}
 use Rattle.rules.specs.Table.{Table}
-use Rattle.sets.specs.Number.{number}
+use Rattle.rows.specs.Run.{number}
 use Rattle.format.specs.Sheet.{Sheet}
 use Rattle.verdicts.specs.Check.{declaredWord, masked, cleaned}
 use Rattle.lent.specs.Table.{wordCount, tableAt, place}

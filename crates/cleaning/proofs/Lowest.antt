@@ -14,7 +14,7 @@ use Rattle.words.specs.Words.{bit, difference}
 use Rattle.words.proofs.Laws.{bit-difference, bit-small, bit-zero, lowest}
 use Rattle.rows.specs.Edition.{labels, words}
 use Rattle.rows.specs.Row.{rowCount}
-use Rattle.sets.specs.Number.{number}
+use Rattle.rows.specs.Run.{number}
 use Rattle.sets.proofs.Numbers as numbers
 use Rattle.rules.specs.Table.{Has}
 use Rattle.lent.specs.Table.{wordCount, tableAt, place}

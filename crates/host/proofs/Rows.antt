@@ -5,7 +5,7 @@ use mathlib.Core.List.{List}
 use Prim.Native.Nat.{ℕ, _+_, _≤_}
 use native.Mathlib.Omega.{arith}
 use Rattle.rows.specs.Edition.{words}
-use Rattle.sets.specs.Number.{number}
+use Rattle.rows.specs.Run.{number}
 use Rattle.lent.specs.Table.{place}
 
 pub row-fits : (wide : Bool) (o n : ℕ) → o + 4 ≤ n → place wide o 0 + words wide ≤ n

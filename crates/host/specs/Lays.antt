@@ -13,7 +13,7 @@ use Rattle.rows.specs.Row.{Key}
 use Rattle.format.specs.Sheet.{builtIn}
 use Rattle.rules.specs.Table.{Table, Has}
 use Rattle.program.specs.Program.{Program, namesOf, isFunction, returnsOf}
-use Rattle.sets.specs.Number.{number}
+use Rattle.rows.specs.Run.{number}
 
 -- the array `host`: from word 0 the labels of functions, from word 4 those of built-in objects, from word 8 the names of each class
 abbrev pub functionsIn : Bool → List ℕ → ℕ

@@ -12,7 +12,7 @@ use borrow.Author.Tests.{eqb-true}
 use Rattle.words.specs.Words.{bit, union, difference}
 use Rattle.words.proofs.Laws.{bit-small, bit-zero, bit-difference}
 use Rattle.rows.specs.Edition.{words}
-use Rattle.sets.specs.Number.{number}
+use Rattle.rows.specs.Run.{number}
 use Rattle.lent.specs.Table.{place}
 use Rattle.lent.specs.Stored.{Stored}
 use Rattle.lent.proofs.Views.{other-row}

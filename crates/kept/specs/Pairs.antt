@@ -8,7 +8,7 @@ use Prim.Native.Nat.{ℕ, _+_, _*_, _≤_, _<_}
 use lib.Bits.{bitAnd}
 use Rattle.words.specs.Words.{bit, union, difference}
 use Rattle.rows.specs.Edition.{words}
-use Rattle.sets.specs.Number.{number}
+use Rattle.rows.specs.Run.{number}
 use Rattle.lent.specs.Table.{place}
 
 -- how many pairs the array of 256 words has room for

@@ -17,7 +17,7 @@ use Rattle.rows.specs.Row.{Key}
 use Rattle.rules.specs.Rule.{chosen}
 use Rattle.rules.proofs.Labels.{chosen-passes, passes-chosen}
 use Rattle.program.specs.Program.{Program, inClass, namesOf}
-use Rattle.sets.specs.Number.{number}
+use Rattle.rows.specs.Run.{number}
 use Rattle.sets.proofs.Numbers.{number-same}
 use Rattle.lent.specs.Table.{place}
 use Rattle.lent.specs.Stored.{Stored}

@@ -10,10 +10,10 @@ use native.Mathlib.Numerals.{one-add}
 use native.Mathlib.Omega.{arith}
 use lib.ListN.{length, getD, set, length-set}
 use lib.Seq.{ext-getD, getD-set-same, getD-set-other}
-use Rattle.sets.specs.Number.{number}
+use Rattle.rows.specs.Run.{number, view}
 use Rattle.rows.specs.Edition.{words}
 use Rattle.sets.proofs.Numbers.{number-same}
-use Rattle.lent.specs.Table.{view, place}
+use Rattle.lent.specs.Table.{place}
 use Rattle.lent.specs.Stored.{Stored}
 
 pub view-length : (k n o : ℕ) (t : List ℕ) → length (view k n o t) ≡ n

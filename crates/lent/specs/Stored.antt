@@ -5,10 +5,9 @@ use mathlib.Core.Bool.{Bool, true, false}
 use mathlib.Core.List.{List}
 use Prim.Native.Nat.{ℕ, _+_, _*_, _≤_, _<_}
 use lib.ListN.{length, getD}
-use Rattle.sets.specs.Number.{number}
+use Rattle.rows.specs.Run.{number, view}
 use Rattle.rules.specs.Table.{Has}
 use Rattle.rules.specs.Round.{join}
-use Rattle.lent.specs.Table.{view}
 
 -- the k words of t from place i on became the number v, and the others stayed
 pub record Stored (k i v : ℕ) (t u : List ℕ) : Type 0 where

@@ -1,18 +1,12 @@
 -- Tables in the lent words. A table is a list of rows, each the number of its set of labels. The words that C lends hold one table, or
 -- two, one behind the other: `tableAt` reads the table that begins at a place. Assumes nothing.
 use mathlib.Core.Bool.{Bool}
-use mathlib.Core.List.{List, [], _∷_}
-use Prim.Native.Nat.{ℕ, zero, suc, _+_, _*_}
+use mathlib.Core.List.{List}
+use Prim.Native.Nat.{ℕ, _+_, _*_}
 use Rattle.rows.specs.Edition.{labels, words}
 use Rattle.rows.specs.Row.{rowCount}
+use Rattle.rows.specs.Run.{view}
 use Rattle.rules.specs.Table.{Table}
-use Rattle.sets.specs.Number.{number}
-
--- the n rows of k words each that begin at place o
-unfoldable pub view : ℕ → ℕ → ℕ → List ℕ → Table
-unfolding number
-view k zero o t = []
-view k (suc n) o t = number k t o ∷ view k n (o + k) t
 
 -- where row r of the table at o begins
 abbrev pub place : Bool → ℕ → ℕ → ℕ

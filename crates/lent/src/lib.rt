@@ -4,7 +4,7 @@ ghost use mathlib.Core.Path.{_≡_};
 ghost use mathlib.Core.Bool.{true, false};
 ghost use Prim.Native.Nat.{_+_, _≤_};
 ghost use lib.ListN.{length};
-ghost use Rattle.sets.specs.Number.{number};
+ghost use Rattle.rows.specs.Run.{number};
 ghost use Rattle.rows.specs.Edition.{words};
 ghost use Rattle.sets.specs.Value.{value};
 ghost use Rattle.lent.specs.Table.{place};

@@ -12,7 +12,7 @@ use lib.ListN.{getD}
 use lib.Pow.{pow-add, pow-pos}
 use Rattle.words.specs.Words.{bit, countBelow, Taken}
 use Rattle.words.proofs.Laws.{bit-low, bit-half}
-use Rattle.sets.specs.Number.{number}
+use Rattle.rows.specs.Run.{number}
 use Rattle.rows.specs.Edition.{words, labels}
 use Rattle.sets.specs.Value.{wordsOf, value}
 use Rattle.sets.specs.declared.Set.{Set}

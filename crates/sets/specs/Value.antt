@@ -3,7 +3,7 @@ use mathlib.Core.Bool.{Bool}
 use mathlib.Core.List.{List, [], _∷_}
 use Prim.Native.Nat.{ℕ}
 use Rattle.rows.specs.Edition.{words}
-use Rattle.sets.specs.Number.{number}
+use Rattle.rows.specs.Run.{number}
 use Rattle.sets.specs.declared.Set.{Set}
 
 abbrev pub wordsOf : Set → List ℕ

@@ -9,7 +9,7 @@ use lib.ListN.{getD}
 use Rattle.words.proofs.Bits.{On, on-single, single-only}
 use Rattle.rows.specs.Edition.{labels, words}
 use Rattle.rows.specs.Row.{rowCount}
-use Rattle.sets.specs.Number.{number}
+use Rattle.rows.specs.Run.{number}
 use Rattle.lent.specs.Table.{wordCount, tableAt, place}
 use Rattle.lent.specs.Stored.{Joined}
 use Rattle.lent.proofs.Views.{view-row}

@@ -11,7 +11,7 @@ use Rattle.words.proofs.Bits.{On, empty-off, on-below, on-union, on-left, on-ri
 use Rattle.rows.specs.Edition.{labels}
 use Rattle.rows.specs.Row.{number, property, rowCount}
 use Rattle.rules.specs.Table.{Table, Has, Within}
-use Rattle.sets.specs.Number as run
+use Rattle.rows.specs.Run as run
 use Rattle.sets.specs.Value.{wordsOf, value}
 use Rattle.sets.specs.declared.Set.{Set}
 use Rattle.sets.proofs.Numbers.{bit-first, bit-after}

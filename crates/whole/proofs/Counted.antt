@@ -12,7 +12,7 @@ use Rattle.rows.specs.Row.{rowCount}
 use Rattle.rows.proofs.Edition.{labels-small}
 use Rattle.rules.specs.Table.{total, facts}
 use Rattle.rules.proofs.Table.{total-next}
-use Rattle.sets.specs.Number.{number}
+use Rattle.rows.specs.Run.{number}
 use Rattle.lent.specs.Table.{place, tableAt}
 use Rattle.uses.proofs.Rows.{row-is}
 use Rattle.whole.proofs.Tables.{table-length}

@@ -7,8 +7,8 @@ use native.Mathlib.Omega.{arith}
 use lib.ListN.{length, getD, take, drop, take-append-drop, length-drop}
 use lib.Seq.{ext-getD, getD-take, getD-drop, take-take, length-take-le}
 use Rattle.rules.specs.Table.{Table, total, facts}
-use Rattle.sets.specs.Number.{number}
-use Rattle.lent.specs.Table.{view, tableAt}
+use Rattle.rows.specs.Run.{number, view}
+use Rattle.lent.specs.Table.{tableAt}
 use Rattle.lent.proofs.Views.{view-length, view-row}
 use Rattle.uses.specs.Use.{Reached}
 use Rattle.uses.proofs.Use.{reached-length, reached-behind}

@@ -11,9 +11,9 @@ use lib.Pow.{pow-pos}
 use Rattle.rows.specs.Edition.{labels, words}
 use Rattle.rows.specs.Row.{rowCount}
 use Rattle.rules.specs.Table.{Small, Shaped}
-use Rattle.sets.specs.Number.{number}
+use Rattle.rows.specs.Run.{number, view}
 use Rattle.sets.proofs.Numbers as numbers
-use Rattle.lent.specs.Table.{view, wordCount, tableAt}
+use Rattle.lent.specs.Table.{wordCount, tableAt}
 use Rattle.lent.proofs.Views.{view-length, view-row}
 use Rattle.whole.specs.Cleared.{Cleared}
 

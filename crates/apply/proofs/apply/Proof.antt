@@ -6,27 +6,12 @@ use Rattle.apply.proofs.Saying.{said, said-plain, said-nothing, said-re
 use Rattle.apply.proofs.apply.Statement.{statement}
 use Rattle.apply.proofs.apply.Tie as tie
 
-enum-told : tie.Need-enum-told
-enum-told c = search needs
-
-enum-known-s : tie.Need-enum-known-s
-enum-known-s c = search needs
-
 name-variable-requires : tie.Need-name-variable-requires
 name-variable-requires c κs =
     let s = c .before .before in
     let start = s .before .before .before in
     let b = bounds (labels (start .args .wide)) (s .s .given .1) (start .pre .1) in
     (start .pre .0, b)
-
-enum-known-s-2 : tie.Need-enum-known-s-2
-enum-known-s-2 c = search needs
-
-grant-requires : tie.Need-grant-requires
-grant-requires c κs = search needs
-
-enum-known-s-3 : tie.Need-enum-known-s-3
-enum-known-s-3 c = search needs
 
 set-property-requires : tie.Need-set-property-requires
 set-property-requires c κs =
@@ -35,24 +20,12 @@ set-property-requires c κs =
     let b = bounds (labels (start .args .wide)) (s .s3 .given .1) (start .pre .1) in
     (start .pre .0, b .0, b .1, b .2)
 
-enum-known-s-4 : tie.Need-enum-known-s-4
-enum-known-s-4 c = search needs
-
 give-label-requires : tie.Need-give-label-requires
 give-label-requires c κs =
     let s = c .before .before in
     let start = s .before .before .before in
     let b = bounds (labels (start .args .wide)) (s .s4 .given .1) (start .pre .1) in
     (start .pre .0, b)
-
-enum-known-s-5 : tie.Need-enum-known-s-5
-enum-known-s-5 c = search needs
-
-copy-requires : tie.Need-copy-requires
-copy-requires c κs = search needs
-
-enum-known-s-6 : tie.Need-enum-known-s-6
-enum-known-s-6 c = search needs
 
 load-requires : tie.Need-load-requires
 load-requires c κs =
@@ -61,18 +34,12 @@ load-requires c κs =
     let b = bounds (labels (start .args .wide)) (s .s6 .given .1) (start .pre .1) in
     (start .pre .0, b .0, b .1)
 
-enum-known-s-7 : tie.Need-enum-known-s-7
-enum-known-s-7 c = search needs
-
 store-requires : tie.Need-store-requires
 store-requires c κs =
     let s = c .before .before .before in
     let start = s .before .before .before in
     let b = bounds (labels (start .args .wide)) (s .s7 .given .1) (start .pre .1) in
     (start .pre .0, b)
-
-enum-known-s-8 : tie.Need-enum-known-s-8
-enum-known-s-8 c = search needs
 
 give-label-requires-2 : tie.Need-give-label-requires-2
 give-label-requires-2 c κs =
@@ -81,18 +48,12 @@ give-label-requires-2 c κs =
     let b = bounds (labels (start .args .wide)) (s .s8 .given .1) (start .pre .1) in
     (start .pre .0, b)
 
-enum-known-s-9 : tie.Need-enum-known-s-9
-enum-known-s-9 c = search needs
-
 make-function-requires : tie.Need-make-function-requires
 make-function-requires c κs =
     let s = c .before .before in
     let start = s .before .before .before in
     let b = bounds (labels (start .args .wide)) (s .s9 .given .1) (start .pre .1) in
     (start .pre .0, b .0, b .1)
-
-enum-known-s-10 : tie.Need-enum-known-s-10
-enum-known-s-10 c = search needs
 
 call-requires : tie.Need-call-requires
 call-requires c κs =
@@ -101,21 +62,12 @@ call-requires c κs =
     let b = bounds (labels (start .args .wide)) (s .s10 .given .1) (start .pre .1) in
     (start .pre .0, b)
 
-enum-known-s-11 : tie.Need-enum-known-s-11
-enum-known-s-11 c = search needs
-
 make-new-requires : tie.Need-make-new-requires
 make-new-requires c κs =
     let s = c .before .before .before in
     let start = s .before .before .before in
     let b = bounds (labels (start .args .wide)) (s .s11 .given .1) (start .pre .1) in
     (start .pre .0, b .0, b .1)
-
-enum-told-2 : tie.Need-enum-told-2
-enum-told-2 c = search needs
-
-enum-known-s-12 : tie.Need-enum-known-s-12
-enum-known-s-12 c = search needs
 
 throw-requires : tie.Need-throw-requires
 throw-requires c κs =
@@ -124,18 +76,12 @@ throw-requires c κs =
     let b = bounds (labels (start .args .wide)) (s .s12 .given .1) (start .pre .1) in
     (start .pre .0, b)
 
-enum-known-s-13 : tie.Need-enum-known-s-13
-enum-known-s-13 c = search needs
-
 catch-requires : tie.Need-catch-requires
 catch-requires c κs =
     let s = c .before .before in
     let start = s .before .before .before in
     let b = bounds (labels (start .args .wide)) (s .s13 .given .1) (start .pre .1) in
     (start .pre .0, b)
-
-enum-known-s-14 : tie.Need-enum-known-s-14
-enum-known-s-14 c = search needs
 
 convert-requires : tie.Need-convert-requires
 convert-requires c κs =
@@ -147,18 +93,12 @@ convert-requires c κs =
 returns : tie.Need-returns
 returns c = λ p lays formals returning. said-nothing (c .enum-told .given .1)
 
-same-length : tie.Need-same-length
-same-length c = search needs
-
 returns-2 : tie.Need-returns-2
 returns-2 c =
     let call = c .before .before in
     let s = call .before .before .before in
     let start = s .before .before .before in
     λ p lays formals returning. said-plain (start .pre .0 .apart) (s .s .given .1) refl (call .name-variable .ensures)
-
-same-length-2 : tie.Need-same-length-2
-same-length-2 c = search needs
 
 returns-3 : tie.Need-returns-3
 returns-3 c =
@@ -167,18 +107,12 @@ returns-3 c =
     let start = s .before .before .before in
     λ p lays formals returning. said-plain (start .pre .0 .apart) (s .s2 .given .1) refl (call .grant .ensures)
 
-same-length-3 : tie.Need-same-length-3
-same-length-3 c = search needs
-
 returns-4 : tie.Need-returns-4
 returns-4 c =
     let call = c .before .before in
     let s = call .before .before .before in
     let start = s .before .before .before in
     λ p lays formals returning. said-plain (start .pre .0 .apart) (s .s3 .given .1) refl (call .set-property .ensures)
-
-same-length-4 : tie.Need-same-length-4
-same-length-4 c = search needs
 
 returns-5 : tie.Need-returns-5
 returns-5 c =
@@ -187,18 +121,12 @@ returns-5 c =
     let start = s .before .before .before in
     λ p lays formals returning. said-plain (start .pre .0 .apart) (s .s4 .given .1) refl (call .give-label .ensures)
 
-same-length-5 : tie.Need-same-length-5
-same-length-5 c = search needs
-
 returns-6 : tie.Need-returns-6
 returns-6 c =
     let call = c .before .before in
     let s = call .before .before .before in
     let start = s .before .before .before in
     λ p lays formals returning. said-plain (start .pre .0 .apart) (s .s5 .given .1) refl (call .copy .ensures)
-
-same-length-6 : tie.Need-same-length-6
-same-length-6 c = search needs
 
 returns-7 : tie.Need-returns-7
 returns-7 c =
@@ -207,18 +135,12 @@ returns-7 c =
     let start = s .before .before .before in
     λ p lays formals returning. said (start .pre .0 .apart) (s .s6 .given .1) refl (call .load .ensures p lays)
 
-same-length-7 : tie.Need-same-length-7
-same-length-7 c = search needs
-
 returns-8 : tie.Need-returns-8
 returns-8 c =
     let call = c .before .before in
     let s = call .before .before .before .before in
     let start = s .before .before .before in
     λ p lays formals returning. said (start .pre .0 .apart) (s .s7 .given .1) refl (call .store .ensures p lays)
-
-same-length-8 : tie.Need-same-length-8
-same-length-8 c = search needs
 
 returns-9 : tie.Need-returns-9
 returns-9 c =
@@ -227,9 +149,6 @@ returns-9 c =
     let start = s .before .before .before in
     λ p lays formals returning. said-plain (start .pre .0 .apart) (s .s8 .given .1) refl (call .give-label2 .ensures)
 
-same-length-9 : tie.Need-same-length-9
-same-length-9 c = search needs
-
 returns-10 : tie.Need-returns-10
 returns-10 c =
     let call = c .before .before in
@@ -237,18 +156,12 @@ returns-10 c =
     let start = s .before .before .before in
     λ p lays formals returning. said-plain (start .pre .0 .apart) (s .s9 .given .1) refl (call .make-function .ensures)
 
-same-length-10 : tie.Need-same-length-10
-same-length-10 c = search needs
-
 returns-11 : tie.Need-returns-11
 returns-11 c =
     let call = c .before .before in
     let s = call .before .before .before .before in
     let start = s .before .before .before in
     λ p lays formals returning. said (start .pre .0 .apart) (s .s10 .given .1) refl (call .call .ensures p lays formals returning)
-
-same-length-11 : tie.Need-same-length-11
-same-length-11 c = search needs
 
 returns-12 : tie.Need-returns-12
 returns-12 c =
@@ -260,9 +173,6 @@ returns-12 c =
 returns-13 : tie.Need-returns-13
 returns-13 c = λ p lays formals returning. said-return (c .enum-told2 .given .1)
 
-same-length-12 : tie.Need-same-length-12
-same-length-12 c = search needs
-
 returns-14 : tie.Need-returns-14
 returns-14 c =
     let call = c .before .before in
@@ -270,18 +180,12 @@ returns-14 c =
     let start = s .before .before .before in
     λ p lays formals returning. said-plain (start .pre .0 .apart) (s .s12 .given .1) refl (call .throw .ensures)
 
-same-length-13 : tie.Need-same-length-13
-same-length-13 c = search needs
-
 returns-15 : tie.Need-returns-15
 returns-15 c =
     let call = c .before .before in
     let s = call .before .before .before in
     let start = s .before .before .before in
     λ p lays formals returning. said-plain (start .pre .0 .apart) (s .s13 .given .1) refl (call .catch .ensures)
-
-same-length-14 : tie.Need-same-length-14
-same-length-14 c = search needs
 
 returns-16 : tie.Need-returns-16
 returns-16 c =
@@ -294,63 +198,63 @@ pub apply-spec : {M : Type 1} → statement M
 apply-spec =
     tie.close
     (tie.spec
-    enum-told
-    enum-known-s
+    (λ c. search needs)
+    (λ c. search needs)
     name-variable-requires
-    enum-known-s-2
-    grant-requires
-    enum-known-s-3
+    (λ c. search needs)
+    (λ c κs. search needs)
+    (λ c. search needs)
     set-property-requires
-    enum-known-s-4
+    (λ c. search needs)
     give-label-requires
-    enum-known-s-5
-    copy-requires
-    enum-known-s-6
+    (λ c. search needs)
+    (λ c κs. search needs)
+    (λ c. search needs)
     load-requires
-    enum-known-s-7
+    (λ c. search needs)
     store-requires
-    enum-known-s-8
+    (λ c. search needs)
     give-label-requires-2
-    enum-known-s-9
+    (λ c. search needs)
     make-function-requires
-    enum-known-s-10
+    (λ c. search needs)
     call-requires
-    enum-known-s-11
+    (λ c. search needs)
     make-new-requires
-    enum-told-2
-    enum-known-s-12
+    (λ c. search needs)
+    (λ c. search needs)
     throw-requires
-    enum-known-s-13
+    (λ c. search needs)
     catch-requires
-    enum-known-s-14
+    (λ c. search needs)
     convert-requires
     returns
-    same-length
+    (λ c. search needs)
     returns-2
-    same-length-2
+    (λ c. search needs)
     returns-3
-    same-length-3
+    (λ c. search needs)
     returns-4
-    same-length-4
+    (λ c. search needs)
     returns-5
-    same-length-5
+    (λ c. search needs)
     returns-6
-    same-length-6
+    (λ c. search needs)
     returns-7
-    same-length-7
+    (λ c. search needs)
     returns-8
-    same-length-8
+    (λ c. search needs)
     returns-9
-    same-length-9
+    (λ c. search needs)
     returns-10
-    same-length-10
+    (λ c. search needs)
     returns-11
-    same-length-11
+    (λ c. search needs)
     returns-12
     returns-13
-    same-length-12
+    (λ c. search needs)
     returns-14
-    same-length-13
+    (λ c. search needs)
     returns-15
-    same-length-14
+    (λ c. search needs)
     returns-16)

@@ -10,12 +10,6 @@ use borrow.Author.Needs.{needs}
 use Rattle.checker.proofs.check_small.Statement.{statement}
 use Rattle.checker.proofs.check_small.Tie as tie
 
-slice-aggregate-lowest-gap : tie.Need-slice-aggregate-lowest-gap
-slice-aggregate-lowest-gap c = search needs
-
-lowest-gap-requires : tie.Need-lowest-gap-requires
-lowest-gap-requires c κs = search needs
-
 returns : tie.Need-returns
 returns c =
     let start = c .before .before .before .before .before in
@@ -25,4 +19,4 @@ returns c =
     ∙ ap (λ (x : Table). gap 64 x (rules 64 (programOf read))) (cleaned-narrow (read .sheet) (start .args .table .now) (start .pre .0))
 
 pub check-small-spec : {M : Type 1} → statement M
-check-small-spec = tie.close (tie.spec slice-aggregate-lowest-gap lowest-gap-requires returns)
+check-small-spec = tie.close (tie.spec (λ c. search needs) (λ c κs. search needs) returns)

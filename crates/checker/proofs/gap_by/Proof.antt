@@ -5,21 +5,6 @@ use Rattle.checker.proofs.Laws.{lent-two, room-two, gap-shown}
 use Rattle.checker.proofs.gap_by.Statement.{statement}
 use Rattle.checker.proofs.gap_by.Tie as tie
 
-declared-requires : tie.Need-declared-requires
-declared-requires c κs = search needs
-
-clean-requires : tie.Need-clean-requires
-clean-requires c κs = search needs
-
-lay-requires : tie.Need-lay-requires
-lay-requires c κs = search needs
-
-collect-requires : tie.Need-collect-requires
-collect-requires c κs = search needs
-
-word-count-requires : tie.Need-word-count-requires
-word-count-requires c κs = search needs
-
 pass-requires : tie.Need-pass-requires
 pass-requires c κs =
     let count = c .before .before .before .before .before .before .before in
@@ -34,9 +19,6 @@ lowest-grown-requires c κs =
     let clean = count .before .before .before .before .before .before .before .before .before .before in
     let start = clean .before .before .before .before .before .before in
     room-two _ _ _ (start .pre .1) (search needs)
-
-same-length : tie.Need-same-length
-same-length c = search needs
 
 returns : tie.Need-returns
 returns c =
@@ -54,12 +36,12 @@ pub gap-by-spec : {M : Type 1} → statement M
 gap-by-spec =
     tie.close
     (tie.spec
-    declared-requires
-    clean-requires
-    lay-requires
-    collect-requires
-    word-count-requires
+    (λ c κs. search needs)
+    (λ c κs. search needs)
+    (λ c κs. search needs)
+    (λ c κs. search needs)
+    (λ c κs. search needs)
     pass-requires
     lowest-grown-requires
-    same-length
+    (λ c. search needs)
     returns)

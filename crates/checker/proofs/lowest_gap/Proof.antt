@@ -22,11 +22,5 @@ gap-by-requires c κs =
       },
     )
 
-same-length : tie.Need-same-length
-same-length c = search needs
-
-returns : tie.Need-returns
-returns c = search needs
-
 pub lowest-gap-spec : {M : Type 1} → statement M
-lowest-gap-spec = tie.close (tie.spec gap-by-requires same-length returns)
+lowest-gap-spec = tie.close (tie.spec gap-by-requires (λ c. search needs) (λ c. search needs))

@@ -12,12 +12,6 @@ returns c = let a = c .before .args in rw (eq-eqb (a .kind) 0 (c .if1 .taken))
 cast-t7 : tie.Need-cast-t7
 cast-t7 c = let start = c .before in omega (arith, start .pre, labels-small (start .args .wide))
 
-single-requires : tie.Need-single-requires
-single-requires c κs = search needs
-
-union-requires : tie.Need-union-requires
-union-requires c κs = search needs
-
 returns-2 : tie.Need-returns-2
 returns-2 c =
     let single = c .before in
@@ -25,4 +19,4 @@ returns-2 c =
     rw (ne-eqb (a .kind) 0 (single .before .if1 .left), ← single .single .ensures) (c .union .ensures)
 
 pub with-label-spec : {M : Type 1} → statement M
-with-label-spec = tie.close (tie.spec returns cast-t7 single-requires union-requires returns-2)
+with-label-spec = tie.close (tie.spec returns cast-t7 (λ c κs. search needs) (λ c κs. search needs) returns-2)

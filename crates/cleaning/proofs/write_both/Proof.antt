@@ -7,9 +7,6 @@ use Rattle.cleaning.proofs.Copies.{both-stored}
 use Rattle.cleaning.proofs.write_both.Statement.{statement}
 use Rattle.cleaning.proofs.write_both.Tie as tie
 
-word-count-requires : tie.Need-word-count-requires
-word-count-requires c κs = search needs
-
 write-requires : tie.Need-write-requires
 write-requires c κs =
     let start = c .before .before .before in
@@ -24,9 +21,6 @@ write-requires-2 c κs =
     let a = start .args in
     row-fits (a .wide) (count .word-count .result) (a .r) _ (omega (arith, count .word-count .ensures .0, start .pre .0, write .write .ensures .same-length)) (start .pre .1)
 
-same-length : tie.Need-same-length
-same-length c = search needs
-
 returns : tie.Need-returns
 returns c =
     let second = c .before .before in
@@ -38,4 +32,4 @@ returns c =
 
 pub write-both-spec : {M : Type 1} → statement M
 write-both-spec =
-    tie.close (tie.spec word-count-requires write-requires write-requires-2 same-length returns)
+    tie.close (tie.spec (λ c κs. search needs) write-requires write-requires-2 (λ c. search needs) returns)

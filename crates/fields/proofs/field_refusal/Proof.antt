@@ -6,25 +6,16 @@ use borrow.Author.Needs.{needs}
 use Rattle.fields.proofs.field_refusal.Statement.{statement}
 use Rattle.fields.proofs.field_refusal.Tie as tie
 
-labels-requires : tie.Need-labels-requires
-labels-requires c κs = search needs
-
 slice-aggregate-counted : tie.Need-slice-aggregate-counted
 slice-aggregate-counted c =
     let e = c .before .labels .ensures .0 in
     sym (length-take-le (c .before .labels .result) (c .before .before .before .before .args .types .now) (rw (← e) at (c .before .before .before .before .pre)))
-
-is-good-requires : tie.Need-is-good-requires
-is-good-requires c κs = search needs
 
 returns : tie.Need-returns
 unfolding fieldRefusal
 returns c =
     let e = rw (c .before .before .before .labels .ensures .0) at (c .before .is-good .ensures) in
     rw (← e, c .if1 .taken)
-
-refusal-of-requires : tie.Need-refusal-of-requires
-refusal-of-requires c κs = search needs
 
 returns-2 : tie.Need-returns-2
 unfolding fieldRefusal
@@ -34,4 +25,4 @@ returns-2 c =
 
 pub field-refusal-spec : {M : Type 1} → statement M
 field-refusal-spec =
-    tie.close (tie.spec labels-requires slice-aggregate-counted is-good-requires returns refusal-of-requires returns-2)
+    tie.close (tie.spec (λ c κs. search needs) slice-aggregate-counted (λ c κs. search needs) returns (λ c κs. search needs) returns-2)

@@ -7,75 +7,6 @@ use borrow.Author.Needs.{needs}
 use Rattle.fields.proofs.is_good.Statement.{statement}
 use Rattle.fields.proofs.is_good.Tie as tie
 
-index-requires : tie.Need-index-requires
-index-requires c κs = search needs
-
-labels-requires : tie.Need-labels-requires
-labels-requires c κs = search needs
-
-both-requires : tie.Need-both-requires
-both-requires c κs = search needs
-
-both-requires-2 : tie.Need-both-requires-2
-both-requires-2 c κs = search needs
-
-type-of-requires : tie.Need-type-of-requires
-type-of-requires c κs = search needs
-
-type-of-requires-2 : tie.Need-type-of-requires-2
-type-of-requires-2 c κs = search needs
-
-both-requires-3 : tie.Need-both-requires-3
-both-requires-3 c κs = search needs
-
-made-requires : tie.Need-made-requires
-made-requires c κs = search needs
-
-made-requires-2 : tie.Need-made-requires-2
-made-requires-2 c κs = search needs
-
-type-of-requires-3 : tie.Need-type-of-requires-3
-type-of-requires-3 c κs = search needs
-
-type-of-requires-4 : tie.Need-type-of-requires-4
-type-of-requires-4 c κs = search needs
-
-either-requires : tie.Need-either-requires
-either-requires c κs = search needs
-
-both-requires-4 : tie.Need-both-requires-4
-both-requires-4 c κs = search needs
-
-made-requires-3 : tie.Need-made-requires-3
-made-requires-3 c κs = search needs
-
-either-requires-2 : tie.Need-either-requires-2
-either-requires-2 c κs = search needs
-
-both-requires-5 : tie.Need-both-requires-5
-both-requires-5 c κs = search needs
-
-owner-of-requires : tie.Need-owner-of-requires
-owner-of-requires c κs = search needs
-
-either-requires-3 : tie.Need-either-requires-3
-either-requires-3 c κs = search needs
-
-owner-of-requires-2 : tie.Need-owner-of-requires-2
-owner-of-requires-2 c κs = search needs
-
-owner-of-requires-3 : tie.Need-owner-of-requires-3
-owner-of-requires-3 c κs = search needs
-
-either-requires-4 : tie.Need-either-requires-4
-either-requires-4 c κs = search needs
-
-both-requires-6 : tie.Need-both-requires-6
-both-requires-6 c κs = search needs
-
-either-requires-5 : tie.Need-either-requires-5
-either-requires-5 c κs = search needs
-
 returns : tie.Need-returns
 unfolding good
 returns c = rw (c .match .keys1)
@@ -152,29 +83,29 @@ pub is-good-spec : {M : Type 1} → statement M
 is-good-spec =
     tie.close
     (tie.spec
-    index-requires
-    labels-requires
-    both-requires
-    both-requires-2
-    type-of-requires
-    type-of-requires-2
-    both-requires-3
-    made-requires
-    made-requires-2
-    type-of-requires-3
-    type-of-requires-4
-    either-requires
-    both-requires-4
-    made-requires-3
-    either-requires-2
-    both-requires-5
-    owner-of-requires
-    either-requires-3
-    owner-of-requires-2
-    owner-of-requires-3
-    either-requires-4
-    both-requires-6
-    either-requires-5
+    (λ c κs. search needs)
+    (λ c κs. search needs)
+    (λ c κs. search needs)
+    (λ c κs. search needs)
+    (λ c κs. search needs)
+    (λ c κs. search needs)
+    (λ c κs. search needs)
+    (λ c κs. search needs)
+    (λ c κs. search needs)
+    (λ c κs. search needs)
+    (λ c κs. search needs)
+    (λ c κs. search needs)
+    (λ c κs. search needs)
+    (λ c κs. search needs)
+    (λ c κs. search needs)
+    (λ c κs. search needs)
+    (λ c κs. search needs)
+    (λ c κs. search needs)
+    (λ c κs. search needs)
+    (λ c κs. search needs)
+    (λ c κs. search needs)
+    (λ c κs. search needs)
+    (λ c κs. search needs)
     returns
     returns-2
     returns-3

@@ -7,12 +7,6 @@ use borrow.Author.Needs.{needs}
 use Rattle.fields.proofs.owner_of.Statement.{statement}
 use Rattle.fields.proofs.owner_of.Tie as tie
 
-index-requires : tie.Need-index-requires
-index-requires c κs = search needs
-
-shared-slice-read-result : tie.Need-shared-slice-read-result
-shared-slice-read-result c = search needs
-
 returns : tie.Need-returns
 returns c =
     let list = c .before .before .before .before .args .owners .now in
@@ -24,4 +18,4 @@ returns-2 c =
     sym (List·getD-eq-default list 1 (omega arith))
 
 pub owner-of-spec : {M : Type 1} → statement M
-owner-of-spec = tie.close (tie.spec index-requires shared-slice-read-result returns returns-2)
+owner-of-spec = tie.close (tie.spec (λ c κs. search needs) (λ c. search needs) returns returns-2)

@@ -10,12 +10,6 @@ use borrow.Author.Needs.{needs}
 use Rattle.fields.proofs.refusal_of.Statement.{statement}
 use Rattle.fields.proofs.refusal_of.Tie as tie
 
-index-requires : tie.Need-index-requires
-index-requires c κs = search needs
-
-array-read-result : tie.Need-array-read-result
-array-read-result c = search needs
-
 returns : tie.Need-returns
 unfolding refusalOf
 returns c =
@@ -27,4 +21,4 @@ unfolding refusalOf
 returns-2 c = rw (class-rest (c .before .before .args .class) (search needs))
 
 pub refusal-of-spec : {M : Type 1} → statement M
-refusal-of-spec = tie.close (tie.spec index-requires array-read-result returns returns-2)
+refusal-of-spec = tie.close (tie.spec (λ c κs. search needs) (λ c. search needs) returns returns-2)

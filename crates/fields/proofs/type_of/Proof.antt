@@ -6,12 +6,6 @@ use borrow.Author.Needs.{needs}
 use Rattle.fields.proofs.type_of.Statement.{statement}
 use Rattle.fields.proofs.type_of.Tie as tie
 
-index-requires : tie.Need-index-requires
-index-requires c κs = search needs
-
-shared-slice-read-result : tie.Need-shared-slice-read-result
-shared-slice-read-result c = search needs
-
 returns : tie.Need-returns
 returns c = rw (c .before .before .index .ensures .0)
 
@@ -21,4 +15,4 @@ returns-2 c =
     sym (List·getD-eq-default list 0 (omega arith))
 
 pub type-of-spec : {M : Type 1} → statement M
-type-of-spec = tie.close (tie.spec index-requires shared-slice-read-result returns returns-2)
+type-of-spec = tie.close (tie.spec (λ c κs. search needs) (λ c. search needs) returns returns-2)

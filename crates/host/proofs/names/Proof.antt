@@ -12,19 +12,10 @@ single-requires c κs = omega (arith, c .before .pre .1 (search needs))
 returns : tie.Need-returns
 returns c = rw (lt-ltb (c .before .before .args .key) 128 (search needs)) (c .single .ensures)
 
-add-result : tie.Need-add-result
-add-result c = search needs
-
-mul-result : tie.Need-mul-result
-mul-result c = search needs
-
-element-copy-out-result : tie.Need-element-copy-out-result
-element-copy-out-result c = search needs
-
 returns-2 : tie.Need-returns-2
 returns-2 c = rw (le-ltb (c .before .before .args .key) 128 (search needs)) refl
 
 pub names-spec : {M : Type 1} → statement M
 names-spec =
     tie.close
-    (tie.spec single-requires returns add-result mul-result element-copy-out-result returns-2)
+    (tie.spec single-requires returns (λ c. search needs) (λ c. search needs) (λ c. search needs) returns-2)

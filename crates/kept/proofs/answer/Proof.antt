@@ -5,12 +5,6 @@ use mathlib.Core.Path.{refl}
 use Rattle.kept.proofs.answer.Statement.{statement}
 use Rattle.kept.proofs.answer.Tie as tie
 
-union-requires : tie.Need-union-requires
-union-requires c κs = search needs
-
-size-requires : tie.Need-size-requires
-size-requires c κs = search needs
-
 keep-requires : tie.Need-keep-requires
 keep-requires c κs =
     let then1 = c .before .before .before in
@@ -30,4 +24,4 @@ returns-3 c = record { joined = c .before .union .ensures; left = inl refl }
 
 pub answer-spec : {M : Type 1} → statement M
 answer-spec =
-    tie.close (tie.spec union-requires size-requires keep-requires returns returns-2 returns-3)
+    tie.close (tie.spec (λ c κs. search needs) (λ c κs. search needs) keep-requires returns returns-2 returns-3)

@@ -7,12 +7,6 @@ use Rattle.kept.proofs.Pairs.{learns-wider, learns-anew}
 use Rattle.kept.proofs.learn.Statement.{statement}
 use Rattle.kept.proofs.learn.Tie as tie
 
-size-requires : tie.Need-size-requires
-size-requires c κs = search needs
-
-is-kept-requires : tie.Need-is-kept-requires
-is-kept-requires c κs = search needs
-
 returns : tie.Need-returns
 returns c = same refl
 
@@ -24,12 +18,6 @@ set-of-requires c κs = let else1 = c .before .before in else1 .before .is-kept 
 
 with-of-requires : tie.Need-with-of-requires
 with-of-requires c κs = let else1 = c .before .before .before .before .before in else1 .before .is-kept .ensures (not-false _ (else1 .if1 .left))
-
-union-requires : tie.Need-union-requires
-union-requires c κs = search needs
-
-meet-requires : tie.Need-meet-requires
-meet-requires c κs = search needs
 
 keep-requires : tie.Need-keep-requires
 keep-requires c κs =
@@ -46,9 +34,6 @@ returns-3 c =
     let else1 = set .before .before .before in
     learns-wider (else1 .before .is-kept .ensures (not-false _ (else1 .if1 .left))) (set .set-of .ensures) (with .with-of .ensures)
     (then3 .if3 .taken) (union .union .ensures) (meet .meet .ensures) (c .keep .ensures)
-
-size-requires-2 : tie.Need-size-requires-2
-size-requires-2 c κs = search needs
 
 keep-requires-2 : tie.Need-keep-requires-2
 keep-requires-2 c κs =
@@ -68,17 +53,17 @@ pub learn-spec : {M : Type 1} → statement M
 learn-spec =
     tie.close
     (tie.spec
-    size-requires
-    is-kept-requires
+    (λ c κs. search needs)
+    (λ c κs. search needs)
     returns
     returns-2
     set-of-requires
     with-of-requires
-    union-requires
-    meet-requires
+    (λ c κs. search needs)
+    (λ c κs. search needs)
     keep-requires
     returns-3
-    size-requires-2
+    (λ c κs. search needs)
     keep-requires-2
     returns-4
     returns-5)

@@ -7,23 +7,14 @@ use Rattle.kept.proofs.Pairs.{leaves-some}
 use Rattle.kept.proofs.leave.Statement.{statement}
 use Rattle.kept.proofs.leave.Tie as tie
 
-is-kept-requires : tie.Need-is-kept-requires
-is-kept-requires c κs = search needs
-
 returns : tie.Need-returns
 returns c = every refl
 
 with-of-requires : tie.Need-with-of-requires
 with-of-requires c κs = c .before .is-kept .ensures (not-false _ (c .if1 .left))
 
-is-within-requires : tie.Need-is-within-requires
-is-within-requires c κs = search needs
-
 set-of-requires : tie.Need-set-of-requires
 set-of-requires c κs = let else1 = c .before .before .before in else1 .before .is-kept .ensures (not-false _ (else1 .if1 .left))
-
-without-requires : tie.Need-without-requires
-without-requires c κs = search needs
 
 returns-2 : tie.Need-returns-2
 returns-2 c =
@@ -42,11 +33,11 @@ pub leave-spec : {M : Type 1} → statement M
 leave-spec =
     tie.close
     (tie.spec
-    is-kept-requires
+    (λ c κs. search needs)
     returns
     with-of-requires
-    is-within-requires
+    (λ c κs. search needs)
     set-of-requires
-    without-requires
+    (λ c κs. search needs)
     returns-2
     returns-3)

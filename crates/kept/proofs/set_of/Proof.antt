@@ -18,8 +18,5 @@ row-requires c κs =
     let h = row-fits (a .args .wide) (a .args .pair) (2 * a .args .pair) (a .pre) (omega arith) in
     search needs
 
-returns : tie.Need-returns
-returns c = search needs
-
 pub set-of-spec : {M : Type 1} → statement M
-set-of-spec = tie.close (tie.spec mul-row row-requires returns)
+set-of-spec = tie.close (tie.spec mul-row row-requires (λ c. search needs))

@@ -5,14 +5,8 @@ use Rattle.kept.proofs.Slots.{slot-stored-class, slot-stored-name}
 use Rattle.kept.proofs.stored_pair.Statement.{statement}
 use Rattle.kept.proofs.stored_pair.Tie as tie
 
-sub-result : tie.Need-sub-result
-sub-result c = search needs
-
 returns : tie.Need-returns
 returns c = (slot-stored-class _ (omega arith) (omega arith) (omega arith), omega arith)
-
-add-result : tie.Need-add-result
-add-result c = search needs
 
 returns-2 : tie.Need-returns-2
 returns-2 c =
@@ -20,4 +14,4 @@ returns-2 c =
     (slot-stored-name _ (omega arith) (omega arith) (omega arith), omega arith)
 
 pub stored-pair-spec : {M : Type 1} → statement M
-stored-pair-spec = tie.close (tie.spec sub-result returns add-result returns-2)
+stored-pair-spec = tie.close (tie.spec (λ c. search needs) returns (λ c. search needs) returns-2)

@@ -5,23 +5,14 @@ use Rattle.kept.proofs.Slots.{slot-under-class, slot-under-often, slot-
 use Rattle.kept.proofs.under_pair.Statement.{statement}
 use Rattle.kept.proofs.under_pair.Tie as tie
 
-sub-result : tie.Need-sub-result
-sub-result c = search needs
-
 returns : tie.Need-returns
 returns c = (slot-under-class _ (omega arith) (omega arith) (omega arith), omega arith)
 
 returns-2 : tie.Need-returns-2
 returns-2 c = (slot-under-name 32 (omega arith) (omega arith) (omega arith), omega arith)
 
-add-result : tie.Need-add-result
-add-result c = search needs
-
 returns-3 : tie.Need-returns-3
 returns-3 c = (slot-under-often _ (omega (arith, c .before .if2 .left)) (omega arith) (omega arith), omega arith)
-
-add-result-2 : tie.Need-add-result-2
-add-result-2 c = search needs
 
 returns-4 : tie.Need-returns-4
 returns-4 c =
@@ -30,4 +21,4 @@ returns-4 c =
 
 pub under-pair-spec : {M : Type 1} → statement M
 under-pair-spec =
-    tie.close (tie.spec sub-result returns returns-2 add-result returns-3 add-result-2 returns-4)
+    tie.close (tie.spec (λ c. search needs) returns returns-2 (λ c. search needs) returns-3 (λ c. search needs) returns-4)

@@ -24,8 +24,5 @@ row-requires c κs =
     let h = row-fits (a .args .wide) (a .args .pair) (2 * a .args .pair + 1) (a .pre) (omega arith) in
     search needs
 
-returns : tie.Need-returns
-returns c = search needs
-
 pub with-of-spec : {M : Type 1} → statement M
-with-of-spec = tie.close (tie.spec mul-row add-row row-requires returns)
+with-of-spec = tie.close (tie.spec mul-row add-row row-requires (λ c. search needs))

@@ -8,29 +8,17 @@ use borrow.Author.Needs.{needs}
 use Rattle.laying.proofs.collect_at.Statement.{statement}
 use Rattle.laying.proofs.collect_at.Tie as tie
 
-shared-slice-read-if1 : tie.Need-shared-slice-read-if1
-shared-slice-read-if1 c = search needs
-
-add-k : tie.Need-add-k
-add-k c = search needs
-
 shared-slice-read-k : tie.Need-shared-slice-read-k
 shared-slice-read-k c =
     let start = c .before .before .before .before in
     let n : bodyLength (getD (start .args .file .now) (start .args .at) 0) ≡ 2 = ap bodyLength (c .before .if1 .taken) in
     omega (arith, walk-room (start .pre .0) (start .pre .1))
 
-add-v : tie.Need-add-v
-add-v c = search needs
-
 shared-slice-read-v : tie.Need-shared-slice-read-v
 shared-slice-read-v c =
     let start = c .before .before .before .before .before in
     let n : bodyLength (getD (start .args .file .now) (start .args .at) 0) ≡ 2 = ap bodyLength (c .before .before .if1 .taken) in
     omega (arith, walk-room (start .pre .0) (start .pre .1))
-
-mark-requires : tie.Need-mark-requires
-mark-requires c κs = search needs
 
 returns : tie.Need-returns
 returns c = (λ _. c .mark .ensures, λ d. absurd (d (search needs)))
@@ -42,11 +30,11 @@ pub collect-at-spec : {M : Type 1} → statement M
 collect-at-spec =
     tie.close
     (tie.spec
-    shared-slice-read-if1
-    add-k
+    (λ c. search needs)
+    (λ c. search needs)
     shared-slice-read-k
-    add-v
+    (λ c. search needs)
     shared-slice-read-v
-    mark-requires
+    (λ c κs. search needs)
     returns
     returns-2)

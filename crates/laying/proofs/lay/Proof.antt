@@ -5,20 +5,11 @@ use Rattle.laying.proofs.Laid.{lays}
 use Rattle.laying.proofs.lay.Statement.{statement}
 use Rattle.laying.proofs.lay.Tie as tie
 
-labels-with-requires : tie.Need-labels-with-requires
-labels-with-requires c κs = search needs
-
 write-requires : tie.Need-write-requires
 write-requires c κs = row-fits (c .before .before .args .wide) 0 _ (search needs)
 
-labels-with-requires-2 : tie.Need-labels-with-requires-2
-labels-with-requires-2 c κs = search needs
-
 write-requires-2 : tie.Need-write-requires-2
 write-requires-2 c κs = row-fits (c .before .before .before .before .before .args .wide) 4 _ (search needs)
-
-lay-names-requires : tie.Need-lay-names-requires
-lay-names-requires c κs = search needs
 
 returns : tie.Need-returns
 returns c =
@@ -33,9 +24,9 @@ pub lay-spec : {M : Type 1} → statement M
 lay-spec =
     tie.close
     (tie.spec
-    labels-with-requires
+    (λ c κs. search needs)
     write-requires
-    labels-with-requires-2
+    (λ c κs. search needs)
     write-requires-2
-    lay-names-requires
+    (λ c κs. search needs)
     returns)

@@ -6,21 +6,6 @@ use borrow.Author.Needs.{needs}
 use Rattle.laying.proofs.mark.Statement.{statement}
 use Rattle.laying.proofs.mark.Tie as tie
 
-cast-f : tie.Need-cast-f
-cast-f c = search needs
-
-mark-in-requires : tie.Need-mark-in-requires
-mark-in-requires c κs = search needs
-
-mark-in-requires-2 : tie.Need-mark-in-requires-2
-mark-in-requires-2 c κs = search needs
-
-mark-in-requires-3 : tie.Need-mark-in-requires-3
-mark-in-requires-3 c κs = search needs
-
-mark-in-requires-4 : tie.Need-mark-in-requires-4
-mark-in-requires-4 c κs = search needs
-
 returns : tie.Need-returns
 returns c =
     let a = c .before .before .before .before .args in
@@ -49,11 +34,11 @@ pub mark-spec : {M : Type 1} → statement M
 mark-spec =
     tie.close
     (tie.spec
-    cast-f
-    mark-in-requires
-    mark-in-requires-2
-    mark-in-requires-3
-    mark-in-requires-4
+    (λ c. search needs)
+    (λ c κs. search needs)
+    (λ c κs. search needs)
+    (λ c κs. search needs)
+    (λ c κs. search needs)
     returns
     returns-2
     returns-3

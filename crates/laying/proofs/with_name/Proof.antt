@@ -4,15 +4,6 @@ use borrow.Author.Tests.{eq-eqb, ne-eqb}
 use Rattle.laying.proofs.with_name.Statement.{statement}
 use Rattle.laying.proofs.with_name.Tie as tie
 
-has-requires : tie.Need-has-requires
-has-requires c κs = search needs
-
-single-requires : tie.Need-single-requires
-single-requires c κs = search needs
-
-join-requires : tie.Need-join-requires
-join-requires c κs = search needs
-
 returns : tie.Need-returns
 returns c = search (needs, eq-eqb, c .join .ensures, c .before .single .ensures, ← c .before .before .before .has .ensures)
 
@@ -20,4 +11,4 @@ returns-2 : tie.Need-returns-2
 returns-2 c = search (needs, ne-eqb, ← c .before .has .ensures)
 
 pub with-name-spec : {M : Type 1} → statement M
-with-name-spec = tie.close (tie.spec has-requires single-requires join-requires returns returns-2)
+with-name-spec = tie.close (tie.spec (λ c κs. search needs) (λ c κs. search needs) (λ c κs. search needs) returns returns-2)

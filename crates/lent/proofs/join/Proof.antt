@@ -1,7 +1,7 @@
 -- A set joined to a row: row 0 takes nothing, a row that holds the set stays, else the union is stored. Assumes nothing.
 use borrow.Author.Needs.{needs}
 use Prim.Native.Nat.{_+_, _*_}
-use Rattle.sets.specs.Number.{number}
+use Rattle.rows.specs.Run.{number}
 use Rattle.rows.specs.Edition.{words}
 use Rattle.sets.specs.Value.{value}
 use Rattle.sets.proofs.Numbers.{number-lt}
@@ -12,15 +12,6 @@ use Rattle.lent.proofs.join.Tie as tie
 returns : tie.Need-returns
 returns c = joined-nowhere _ _ _ _ _ (c .if1 .taken)
 
-row-requires : tie.Need-row-requires
-row-requires c κs = search needs
-
-is-within-requires : tie.Need-is-within-requires
-is-within-requires c κs = search needs
-
-same-length : tie.Need-same-length
-same-length c = search needs
-
 returns-2 : tie.Need-returns-2
 returns-2 c =
     let within = c .before in
@@ -29,15 +20,6 @@ returns-2 c =
     let a = known .before .args in
     joined-held (words (a .wide)) (a .o) (a .r) (value (a .wide) (a .s)) (a .t .now) (row .before .before .if1 .left) (within .is-within .ensures .1)
     (number-lt _ _ _ (λ i. known .slice-known .given i .fits)) (lacks-nothing _ {old = number (words (a .wide)) (a .t .now) (a .o + words (a .wide) * a .r)} (row .row .ensures) (within .is-within .ensures .0) (c .if2 .taken))
-
-union-requires : tie.Need-union-requires
-union-requires c κs = search needs
-
-write-requires : tie.Need-write-requires
-write-requires c κs = search needs
-
-same-length-2 : tie.Need-same-length-2
-same-length-2 c = search needs
 
 returns-3 : tie.Need-returns-3
 returns-3 c =
@@ -56,11 +38,11 @@ join-spec =
     tie.close
     (tie.spec
     returns
-    row-requires
-    is-within-requires
-    same-length
+    (λ c κs. search needs)
+    (λ c κs. search needs)
+    (λ c. search needs)
     returns-2
-    union-requires
-    write-requires
-    same-length-2
+    (λ c κs. search needs)
+    (λ c κs. search needs)
+    (λ c. search needs)
     returns-3)

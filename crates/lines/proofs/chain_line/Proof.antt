@@ -7,9 +7,6 @@ use Rattle.lines.proofs.Lines.{chain-applies}
 use Rattle.lines.proofs.chain_line.Statement.{statement}
 use Rattle.lines.proofs.chain_line.Tie as tie
 
-chain-requires : tie.Need-chain-requires
-chain-requires c κs = search needs
-
 row-requires : tie.Need-row-requires
 row-requires c κs =
     let chain = c .before in
@@ -17,24 +14,12 @@ row-requires c κs =
     let a = start .args in
     row-read (a .wide) (chain .chain .result) (length (a .t .now)) (read-room (a .wide) (start .pre .0)) (chain .chain .ensures .1)
 
-told-chains-requires : tie.Need-told-chains-requires
-told-chains-requires c κs = search needs
-
-first-on-requires : tie.Need-first-on-requires
-first-on-requires c κs = search needs
-
-union-requires : tie.Need-union-requires
-union-requires c κs = search needs
-
 join-requires : tie.Need-join-requires
 join-requires c κs =
     let chain = c .before .before .before .before .before .before .before .before in
     let start = chain .before .before in
     let a = start .args in
     row-fits (a .wide) (a .o) (chain .chain .result) (length (a .t .now)) (start .pre .0 .room) (chain .chain .ensures .1)
-
-same-length : tie.Need-same-length
-same-length c = search needs
 
 returns : tie.Need-returns
 returns c =
@@ -54,11 +39,11 @@ pub chain-line-spec : {M : Type 1} → statement M
 chain-line-spec =
     tie.close
     (tie.spec
-    chain-requires
+    (λ c κs. search needs)
     row-requires
-    told-chains-requires
-    first-on-requires
-    union-requires
+    (λ c κs. search needs)
+    (λ c κs. search needs)
+    (λ c κs. search needs)
     join-requires
-    same-length
+    (λ c. search needs)
     returns)

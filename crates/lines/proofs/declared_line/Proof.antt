@@ -22,12 +22,6 @@ cast-t10 c =
     let start = c .before .before .before .before .before in
     search (needs, labels-small (start .args .wide), start .pre .1)
 
-chain-line-requires : tie.Need-chain-line-requires
-chain-line-requires c κs = search needs
-
-same-length : tie.Need-same-length
-same-length c = search needs
-
 returns-2 : tie.Need-returns-2
 returns-2 c =
     let line = c .before .before in
@@ -37,4 +31,4 @@ returns-2 c =
     λ p e. type-chain (a .types .now) (getD (a .types .now) (a .l) 0) (a .l) (start .pre .1) e refl (other .if1 .left) (line .chain-line .ensures p)
 
 pub declared-line-spec : {M : Type 1} → statement M
-declared-line-spec = tie.close (tie.spec element-copy-out-kind returns cast-t10 chain-line-requires same-length returns-2)
+declared-line-spec = tie.close (tie.spec element-copy-out-kind returns cast-t10 (λ c κs. search needs) (λ c. search needs) returns-2)

@@ -6,19 +6,10 @@ use Rattle.lines.proofs.Lines.{low-label, on-first}
 use Rattle.lines.proofs.first_on.Statement.{statement}
 use Rattle.lines.proofs.first_on.Tie as tie
 
-parent-of-requires : tie.Need-parent-of-requires
-parent-of-requires c κs = search needs
-
-single-requires : tie.Need-single-requires
-single-requires c κs = search needs
-
 single-requires-2 : tie.Need-single-requires-2
 single-requires-2 c κs =
     let parent = c .before in
     low-label (parent .before .args .wide) (parent .parent-of .ensures .1)
-
-union-requires : tie.Need-union-requires
-union-requires c κs = search needs
 
 returns : tie.Need-returns
 returns c =
@@ -30,4 +21,4 @@ returns c =
     (rw (own .single .ensures, second .single2 .ensures) at (c .union .ensures)) (parent .parent-of .ensures .0)
 
 pub first-on-spec : {M : Type 1} → statement M
-first-on-spec = tie.close (tie.spec parent-of-requires single-requires single-requires-2 union-requires returns)
+first-on-spec = tie.close (tie.spec (λ c κs. search needs) (λ c κs. search needs) single-requires-2 (λ c κs. search needs) returns)

@@ -7,21 +7,12 @@ use Rattle.lines.proofs.Lines.{guest-used}
 use Rattle.lines.proofs.guest_line.Statement.{statement}
 use Rattle.lines.proofs.guest_line.Tie as tie
 
-chain-requires : tie.Need-chain-requires
-chain-requires c κs = search needs
-
-prototypes-requires : tie.Need-prototypes-requires
-prototypes-requires c κs = search needs
-
 join-requires : tie.Need-join-requires
 join-requires c κs =
     let chain = c .before .before in
     let start = chain .before .before in
     let a = start .args in
     row-fits (a .wide) (a .o) (chain .chain .result) (length (a .t .now)) (start .pre .0 .room) (chain .chain .ensures .1)
-
-same-length : tie.Need-same-length
-same-length c = search needs
 
 returns : tie.Need-returns
 returns c =
@@ -32,4 +23,4 @@ returns c =
     guest-used (a .g .0) (1 ∷ 2 ∷ 4 ∷ []) (chain .chain .ensures .0) (chain .chain .ensures .1) (all .prototypes .ensures) (join .join .ensures)
 
 pub guest-line-spec : {M : Type 1} → statement M
-guest-line-spec = tie.close (tie.spec chain-requires prototypes-requires join-requires same-length returns)
+guest-line-spec = tie.close (tie.spec (λ c κs. search needs) (λ c κs. search needs) join-requires (λ c. search needs) returns)

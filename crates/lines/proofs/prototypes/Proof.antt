@@ -15,12 +15,6 @@ single-requires-2 c κs = low-label (c .before .args .wide) (omega arith)
 single-requires-3 : tie.Need-single-requires-3
 single-requires-3 c κs = low-label (c .before .before .args .wide) (omega arith)
 
-union-requires : tie.Need-union-requires
-union-requires c κs = search needs
-
-union-requires-2 : tie.Need-union-requires-2
-union-requires-2 c κs = search needs
-
 returns : tie.Need-returns
 returns c =
     let others = c .before in
@@ -38,6 +32,6 @@ prototypes-spec =
     single-requires
     single-requires-2
     single-requires-3
-    union-requires
-    union-requires-2
+    (λ c κs. search needs)
+    (λ c κs. search needs)
     returns)

@@ -5,19 +5,10 @@ use Rattle.passes.proofs.Whole.{applies-lines}
 use Rattle.passes.proofs.lines.Statement.{statement}
 use Rattle.passes.proofs.lines.Tie as tie
 
-chain-lines-requires : tie.Need-chain-lines-requires
-chain-lines-requires c κs = search needs
-
 guest-line-requires : tie.Need-guest-line-requires
 guest-line-requires c κs =
     let start = c .before .before .before .before .before .before .before in
     (record { room = search needs; apart = start .pre .apart }, three-labels (start .args .wide))
-
-guest-requires : tie.Need-guest-requires
-guest-requires c κs = search needs
-
-same-length : tie.Need-same-length
-same-length c = search needs
 
 returns : tie.Need-returns
 returns c =
@@ -32,8 +23,8 @@ pub lines-spec : {M : Type 1} → statement M
 lines-spec =
     tie.close
     (tie.spec
-    chain-lines-requires
+    (λ c κs. search needs)
     guest-line-requires
-    guest-requires
-    same-length
+    (λ c κs. search needs)
+    (λ c. search needs)
     returns)

@@ -4,16 +4,10 @@ use Rattle.passes.proofs.Whole.{applies-pass}
 use Rattle.passes.proofs.pass.Statement.{statement}
 use Rattle.passes.proofs.pass.Tie as tie
 
-lines-requires : tie.Need-lines-requires
-lines-requires c κs = search needs
-
 host-rules-requires : tie.Need-host-rules-requires
 host-rules-requires c κs =
     let start = c .before .before .before .before .before .before .before .before .before in
     (record { room = search needs; apart = start .pre .0 .apart }, start .pre .1)
-
-same-length : tie.Need-same-length
-same-length c = search needs
 
 returns : tie.Need-returns
 returns c =
@@ -27,7 +21,7 @@ pub pass-spec : {M : Type 1} → statement M
 pass-spec =
     tie.close
     (tie.spec
-    lines-requires
+    (λ c κs. search needs)
     host-rules-requires
-    same-length
+    (λ c. search needs)
     returns)

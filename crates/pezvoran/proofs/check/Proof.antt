@@ -7,9 +7,6 @@ use borrow.Author.Needs.{needs}
 use Rattle.pezvoran.proofs.check.Statement.{statement}
 use Rattle.pezvoran.proofs.check.Tie as tie
 
-examine-requires : tie.Need-examine-requires
-examine-requires c κs = search needs
-
 pack-requires : tie.Need-pack-requires
 pack-requires c κs = subst Ranged (sym (c .examine .ensures)) (check-ranged 64 (omega arith) _ _)
 
@@ -17,4 +14,4 @@ returns : tie.Need-returns
 returns c = c .pack .ensures ∙ ap packed (c .before .examine .ensures)
 
 pub check-spec : {M : Type 1} → statement M
-check-spec = tie.close (tie.spec examine-requires pack-requires returns)
+check-spec = tie.close (tie.spec (λ c κs. search needs) pack-requires returns)

@@ -16,9 +16,6 @@ returns c =
     let a = c .before .before .before .args in
     sym (check-short (a .file .now) (a .table .now) (c .if1 .taken))
 
-read-requires : tie.Need-read-requires
-read-requires c κs = search needs
-
 returns-2 : tie.Need-returns-2
 returns-2 c =
     let a = c .before .before .before .before .before .args in
@@ -28,9 +25,6 @@ returns-2 c =
     let full = c .before .before .if1 .left in
     let z : readFile 64 xs .refusal ≡ 0 → ⊥ = (λ q. c .if2 .taken (r .1 .0 ∙ q)) in
     ap₂ refused (r .1 .0) (r .1 .1) ∙ sym (check-refused xs t full z)
-
-check-small-requires : tie.Need-check-small-requires
-check-small-requires c κs = search needs
 
 returns-3 : tie.Need-returns-3
 returns-3 c =
@@ -44,9 +38,6 @@ returns-3 c =
     let g = c .before .check-small .ensures in
     let low = c .if3 .taken in
     ap (refused 10) g ∙ sym (check-gap xs t full ok (omega (arith, g)))
-
-held-requires : tie.Need-held-requires
-held-requires c κs = search needs
 
 returns-4 : tie.Need-returns-4
 returns-4 c =
@@ -62,9 +53,6 @@ returns-4 c =
     let high = h .before .if3 .left in
     let held = small-held t (h .held .result) _ (readFile 64 xs .sheet .forbidden) (h .held .ensures) (ap (λ (s : Sheet). s .forbidden) (r .0)) in
     sym (check-clear xs t full ok (omega (arith, g)) (sym held ∙ c .if4 .taken))
-
-lowest-label-requires : tie.Need-lowest-label-requires
-lowest-label-requires c κs = search needs
 
 returns-5 : tie.Need-returns-5
 returns-5 c =
@@ -87,11 +75,11 @@ examine-spec =
     tie.close
     (tie.spec
     returns
-    read-requires
+    (λ c κs. search needs)
     returns-2
-    check-small-requires
+    (λ c κs. search needs)
     returns-3
-    held-requires
+    (λ c κs. search needs)
     returns-4
-    lowest-label-requires
+    (λ c κs. search needs)
     returns-5)

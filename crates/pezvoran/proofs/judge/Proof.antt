@@ -18,9 +18,6 @@ returns c =
     let a = c .before .before .before .args in
     (sym (short-outcome (a .file .now) (a .table .now) (c .if1 .taken)), sym (short-table (a .file .now) (a .table .now) (c .if1 .taken)))
 
-read-requires : tie.Need-read-requires
-read-requires c κs = search needs
-
 returns-2 : tie.Need-returns-2
 returns-2 c =
     let a = c .before .before .before .before .before .args in
@@ -30,21 +27,6 @@ returns-2 c =
     let full = c .before .before .if1 .left in
     let z : readFile 64 xs .refusal ≡ 0 → ⊥ = (λ q. c .if2 .taken (r .1 .0 ∙ q)) in
     (ap₂ refused (r .1 .0) (r .1 .1) ∙ sym (refused-outcome xs t full z), sym (refused-table xs t full z))
-
-solve-requires : tie.Need-solve-requires
-solve-requires c κs = search needs
-
-held-requires : tie.Need-held-requires
-held-requires c κs = search needs
-
-count-requires : tie.Need-count-requires
-count-requires c κs = search needs
-
-judged-requires : tie.Need-judged-requires
-judged-requires c κs = search needs
-
-same-length : tie.Need-same-length
-same-length c = search needs
 
 returns-3 : tie.Need-returns-3
 returns-3 c =
@@ -71,11 +53,11 @@ judge-spec =
     tie.close
     (tie.spec
     returns
-    read-requires
+    (λ c κs. search needs)
     returns-2
-    solve-requires
-    held-requires
-    count-requires
-    judged-requires
-    same-length
+    (λ c κs. search needs)
+    (λ c κs. search needs)
+    (λ c κs. search needs)
+    (λ c κs. search needs)
+    (λ c. search needs)
     returns-3)

@@ -8,11 +8,8 @@ use Rattle.pezvoran.proofs.judged.Tie as tie
 returns : tie.Need-returns
 returns c = rw (eq-eqb _ _ (c .if1 .taken)) refl
 
-lowest-label-requires : tie.Need-lowest-label-requires
-lowest-label-requires c κs = search needs
-
 returns-2 : tie.Need-returns-2
 returns-2 c = rw (ne-eqb _ _ (c .before .if1 .left), c .lowest-label .ensures)
 
 pub judged-spec : {M : Type 1} → statement M
-judged-spec = tie.close (tie.spec returns lowest-label-requires returns-2)
+judged-spec = tie.close (tie.spec returns (λ c κs. search needs) returns-2)

@@ -5,14 +5,8 @@ use borrow.Author.Needs.{needs}
 use Rattle.pezvoran.proofs.lowest_label.Statement.{statement}
 use Rattle.pezvoran.proofs.lowest_label.Tie as tie
 
-lowest-requires : tie.Need-lowest-requires
-lowest-requires c κs = search needs
-
 cast-result : tie.Need-cast-result
 cast-result c = omega (arith, trailing-le 64 (c .before .args .w), c .lowest .ensures)
 
-returns : tie.Need-returns
-returns c = search needs
-
 pub lowest-label-spec : {M : Type 1} → statement M
-lowest-label-spec = tie.close (tie.spec lowest-requires cast-result returns)
+lowest-label-spec = tie.close (tie.spec (λ c κs. search needs) cast-result (λ c. search needs))

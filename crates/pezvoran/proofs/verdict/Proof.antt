@@ -7,14 +7,8 @@ use borrow.Author.Needs.{needs}
 use Rattle.pezvoran.proofs.verdict.Statement.{statement}
 use Rattle.pezvoran.proofs.verdict.Tie as tie
 
-judge-requires : tie.Need-judge-requires
-judge-requires c κs = search needs
-
 pack-requires : tie.Need-pack-requires
 pack-requires c κs = subst Ranged (sym (c .before .before .judge .ensures .0)) (verdict-ranged 64 (omega arith) _ _)
-
-same-length : tie.Need-same-length
-same-length c = search needs
 
 returns : tie.Need-returns
 returns c =
@@ -22,4 +16,4 @@ returns c =
     (c .pack .ensures ∙ ap packed (j .0), j .1)
 
 pub verdict-spec : {M : Type 1} → statement M
-verdict-spec = tie.close (tie.spec judge-requires pack-requires same-length returns)
+verdict-spec = tie.close (tie.spec (λ c κs. search needs) pack-requires (λ c. search needs) returns)

@@ -14,16 +14,10 @@ use Rattle.reader.proofs.read.Tie as tie
 abbrev lackingIn : format.Sheet → Bool
 lackingIn s = lacking (s .types) (s .defined)
 
-fresh-requires : tie.Need-fresh-requires
-fresh-requires c κs = search needs
-
 returns : tie.Need-returns
 returns c =
     let v = c .before .before .before .args in
     rw (too-long (labels (v .wide)) (v .file .now) (c .before .if1 .taken)) (c .fresh .ensures, (refl, refl))
-
-read-records-requires : tie.Need-read-records-requires
-read-records-requires c κs = search needs
 
 returns-2 : tie.Need-returns-2
 returns-2 c =
@@ -31,9 +25,6 @@ returns-2 c =
     let r = c .before .read-records .ensures in
     let a = refused-early (labels (v .wide)) (v .file .now) (c .before .before .if1 .left) (λ z. c .if2 .taken (r .1 .0 ∙ z)) in
     (r .0 ∙ a .sheet-same, (r .1 .0 ∙ a .refusal-same, r .1 .1 ∙ a .position-same))
-
-is-complete-requires : tie.Need-is-complete-requires
-is-complete-requires c κs = search needs
 
 returns-3 : tie.Need-returns-3
 returns-3 c =
@@ -57,10 +48,10 @@ pub read-spec : {M : Type 1} → statement M
 read-spec =
     tie.close
     (tie.spec
-    fresh-requires
+    (λ c κs. search needs)
     returns
-    read-records-requires
+    (λ c κs. search needs)
     returns-2
-    is-complete-requires
+    (λ c κs. search needs)
     returns-3
     returns-4)

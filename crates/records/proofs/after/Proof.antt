@@ -5,22 +5,10 @@ use Rattle.records.proofs.Walks.{walk-room}
 use Rattle.records.proofs.after.Statement.{statement}
 use Rattle.records.proofs.after.Tie as tie
 
-add-result : tie.Need-add-result
-add-result c = search needs
-
-shared-slice-read-body-length : tie.Need-shared-slice-read-body-length
-shared-slice-read-body-length c = search needs
-
-body-length-requires : tie.Need-body-length-requires
-body-length-requires c κs = search needs
-
 add-result-2 : tie.Need-add-result-2
 add-result-2 c = let pre = c .before .before .before .pre in omega (arith, walk-room (pre .0) (pre .1), c .body-length .ensures)
-
-returns : tie.Need-returns
-returns c = search needs
 
 pub after-spec : {M : Type 1} → statement M
 after-spec =
     tie.close
-    (tie.spec add-result shared-slice-read-body-length body-length-requires add-result-2 returns)
+    (tie.spec (λ c. search needs) (λ c. search needs) (λ c κs. search needs) add-result-2 (λ c. search needs))

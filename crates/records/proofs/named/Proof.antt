@@ -5,17 +5,11 @@ use borrow.Author.Tests.{eq-eqb, ne-eqb}
 use Rattle.records.proofs.named.Statement.{statement}
 use Rattle.records.proofs.named.Tie as tie
 
-shared-slice-read-name : tie.Need-shared-slice-read-name
-shared-slice-read-name c = search needs
-
 returns : tie.Need-returns
 returns c = rw (eq-eqb _ 255 (c .if1 .taken)) refl
-
-shared-slice-read-t4 : tie.Need-shared-slice-read-t4
-shared-slice-read-t4 c = search needs
 
 returns-2 : tie.Need-returns-2
 returns-2 c = rw (ne-eqb _ 255 (c .before .if1 .left)) refl
 
 pub named-spec : {M : Type 1} → statement M
-named-spec = tie.close (tie.spec shared-slice-read-name returns shared-slice-read-t4 returns-2)
+named-spec = tie.close (tie.spec (λ c. search needs) returns (λ c. search needs) returns-2)

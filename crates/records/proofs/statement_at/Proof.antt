@@ -4,21 +4,6 @@ use Rattle.records.proofs.Walks.{walk-room, body-range, slice-body}
 use Rattle.records.proofs.statement_at.Statement.{statement}
 use Rattle.records.proofs.statement_at.Tie as tie
 
-after-requires : tie.Need-after-requires
-after-requires c κs = search needs
-
-shared-slice-read-statement-of : tie.Need-shared-slice-read-statement-of
-shared-slice-read-statement-of c = search needs
-
-add-statement-of : tie.Need-add-statement-of
-add-statement-of c = search needs
-
-sub-statement-of : tie.Need-sub-statement-of
-sub-statement-of c = search needs
-
-part-statement-of-start : tie.Need-part-statement-of-start
-part-statement-of-start c = search needs
-
 part-statement-of-end : tie.Need-part-statement-of-end
 part-statement-of-end c =
     let pre = c .before .before .before .pre in
@@ -41,11 +26,11 @@ pub statement-at-spec : {M : Type 1} → statement M
 statement-at-spec =
     tie.close
     (tie.spec
-    after-requires
-    shared-slice-read-statement-of
-    add-statement-of
-    sub-statement-of
-    part-statement-of-start
+    (λ c κs. search needs)
+    (λ c. search needs)
+    (λ c. search needs)
+    (λ c. search needs)
+    (λ c. search needs)
     part-statement-of-end
     statement-of-requires
     returns)

@@ -20,48 +20,6 @@ spoken : (c : tie.After-shared-slice-known) {n : ℕ} {r : Statement} (f : List 
     → Says (labels (c .before .args .wide)) (c .before .args .kind) (c .before .args .body .now) r
 spoken c f e q law = said _ _ e q (c .before .pre) (law (labels (c .before .args .wide)) (c .before .args .body .now))
 
-named-requires : tie.Need-named-requires
-named-requires c κs = search needs
-
-grant-requires : tie.Need-grant-requires
-grant-requires c κs = search needs
-
-property-requires : tie.Need-property-requires
-property-requires c κs = search needs
-
-held-requires : tie.Need-held-requires
-held-requires c κs = search needs
-
-copy-requires : tie.Need-copy-requires
-copy-requires c κs = search needs
-
-load-requires : tie.Need-load-requires
-load-requires c κs = search needs
-
-store-requires : tie.Need-store-requires
-store-requires c κs = search needs
-
-make-requires : tie.Need-make-requires
-make-requires c κs = search needs
-
-make-function-requires : tie.Need-make-function-requires
-make-function-requires c κs = search needs
-
-call-requires : tie.Need-call-requires
-call-requires c κs = search needs
-
-new-requires : tie.Need-new-requires
-new-requires c κs = search needs
-
-throw-requires : tie.Need-throw-requires
-throw-requires c κs = search needs
-
-catch-requires : tie.Need-catch-requires
-catch-requires c κs = search needs
-
-convert-requires : tie.Need-convert-requires
-convert-requires c κs = search needs
-
 returns : tie.Need-returns
 returns c = spoken (c .before .before) namedIn (c .before .match .keys1) (c .named .ensures) named-says
 
@@ -115,20 +73,20 @@ pub statement-of-spec : {M : Type 1} → statement M
 statement-of-spec =
     tie.close
     (tie.spec
-    named-requires
-    grant-requires
-    property-requires
-    held-requires
-    copy-requires
-    load-requires
-    store-requires
-    make-requires
-    make-function-requires
-    call-requires
-    new-requires
-    throw-requires
-    catch-requires
-    convert-requires
+    (λ c κs. search needs)
+    (λ c κs. search needs)
+    (λ c κs. search needs)
+    (λ c κs. search needs)
+    (λ c κs. search needs)
+    (λ c κs. search needs)
+    (λ c κs. search needs)
+    (λ c κs. search needs)
+    (λ c κs. search needs)
+    (λ c κs. search needs)
+    (λ c κs. search needs)
+    (λ c κs. search needs)
+    (λ c κs. search needs)
+    (λ c κs. search needs)
     returns
     returns-2
     returns-3

@@ -5,23 +5,11 @@ use borrow.Author.Needs.{needs}
 use Rattle.sets.proofs.has.Statement.{statement}
 use Rattle.sets.proofs.has.Tie as tie
 
-cast-l : tie.Need-cast-l
-cast-l c = search needs
-
-has-requires : tie.Need-has-requires
-has-requires c κs = search needs
-
 returns : tie.Need-returns
 returns c = c .has .ensures ∙ sym (value-bit _ _ 0 _ (search needs) (search needs) (search needs) (search needs))
 
-has-requires-2 : tie.Need-has-requires-2
-has-requires-2 c κs = search needs
-
 returns-2 : tie.Need-returns-2
 returns-2 c = c .has2 .ensures ∙ sym (value-bit _ _ 1 _ (search needs) (search needs) (search needs) (search needs))
-
-has-requires-3 : tie.Need-has-requires-3
-has-requires-3 c κs = search needs
 
 returns-3 : tie.Need-returns-3
 returns-3 c = c .has3 .ensures ∙ sym (value-bit _ _ 2 _ (search needs) (search needs) (search needs) (search needs))
@@ -36,12 +24,12 @@ pub has-spec : {M : Type 1} → statement M
 has-spec =
     tie.close
     (tie.spec
-    cast-l
-    has-requires
+    (λ c. search needs)
+    (λ c κs. search needs)
     returns
-    has-requires-2
+    (λ c κs. search needs)
     returns-2
-    has-requires-3
+    (λ c κs. search needs)
     returns-3
     has-requires-4
     returns-4)

@@ -4,23 +4,11 @@ use borrow.Author.Needs.{needs}
 use Rattle.sets.proofs.single.Statement.{statement}
 use Rattle.sets.proofs.single.Tie as tie
 
-cast-l : tie.Need-cast-l
-cast-l c = search needs
-
-single-requires : tie.Need-single-requires
-single-requires c κs = search needs
-
 returns : tie.Need-returns
 returns c = single-a _ _ _ (c .single .ensures)
 
-single-requires-2 : tie.Need-single-requires-2
-single-requires-2 c κs = search needs
-
 returns-2 : tie.Need-returns-2
 returns-2 c = single-b _ _ _ (search needs) (search needs) (c .single2 .ensures)
-
-single-requires-3 : tie.Need-single-requires-3
-single-requires-3 c κs = search needs
 
 returns-3 : tie.Need-returns-3
 returns-3 c = single-c _ _ _ (search needs) (search needs) (c .single3 .ensures)
@@ -35,12 +23,12 @@ pub single-spec : {M : Type 1} → statement M
 single-spec =
     tie.close
     (tie.spec
-    cast-l
-    single-requires
+    (λ c. search needs)
+    (λ c κs. search needs)
     returns
-    single-requires-2
+    (λ c κs. search needs)
     returns-2
-    single-requires-3
+    (λ c κs. search needs)
     returns-3
     single-requires-4
     returns-4)

@@ -5,11 +5,8 @@ use Rattle.words.proofs.Laws.{count-le}
 use Rattle.sets.proofs.word_size.Statement.{statement}
 use Rattle.sets.proofs.word_size.Tie as tie
 
-size-requires : tie.Need-size-requires
-size-requires c κs = search needs
-
 returns : tie.Need-returns
 returns c = (c .size .ensures, omega (arith, c .size .ensures, count-le (c .before .args .x) 64))
 
 pub word-size-spec : {M : Type 1} → statement M
-word-size-spec = tie.close (tie.spec size-requires returns)
+word-size-spec = tie.close (tie.spec (λ c κs. search needs) returns)

@@ -6,9 +6,6 @@ use Rattle.uses.proofs.Rows.{count-small}
 use Rattle.uses.proofs.gather.Statement.{statement}
 use Rattle.uses.proofs.gather.Tie as tie
 
-none-requires : tie.Need-none-requires
-none-requires c κs = search needs
-
 gather-word-requires : tie.Need-gather-word-requires
 gather-word-requires c κs = let start = c .before .before in (start .pre .0, word-fits (start .args .wide) (start .args .base) (start .pre .1))
 
@@ -75,7 +72,7 @@ pub gather-spec : {M : Type 1} → statement M
 gather-spec =
     tie.close
     (tie.spec
-    none-requires
+    (λ c κs. search needs)
     gather-word-requires
     add-b
     gather-word-requires-2

@@ -5,16 +5,10 @@ use Rattle.uses.proofs.Rows.{row-fits, used-give}
 use Rattle.uses.proofs.give.Statement.{statement}
 use Rattle.uses.proofs.give.Tie as tie
 
-single-requires : tie.Need-single-requires
-single-requires c κs = search needs
-
 join-requires : tie.Need-join-requires
 join-requires c κs =
     let a = c .before .before .before in
     row-fits (a .args .wide) (a .args .o) (a .args .y) (length (a .args .t .now)) (a .pre .0 .room) (a .pre .1)
-
-same-length : tie.Need-same-length
-same-length c = search needs
 
 returns : tie.Need-returns
 returns c =
@@ -24,4 +18,4 @@ returns c =
     used-give (start .pre .1) (single .single .ensures) (join .join .ensures)
 
 pub give-spec : {M : Type 1} → statement M
-give-spec = tie.close (tie.spec single-requires join-requires same-length returns)
+give-spec = tie.close (tie.spec (λ c κs. search needs) join-requires (λ c. search needs) returns)

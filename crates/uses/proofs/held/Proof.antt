@@ -6,9 +6,6 @@ use Rattle.uses.proofs.Rows.{row-read, row-is, variable-row}
 use Rattle.uses.proofs.held.Statement.{statement}
 use Rattle.uses.proofs.held.Tie as tie
 
-row-requires : tie.Need-row-requires
-row-requires c κs = search needs
-
 row-requires-2 : tie.Need-row-requires-2
 row-requires-2 c κs =
     let row = c in
@@ -27,6 +24,6 @@ pub held-spec : {M : Type 1} → statement M
 held-spec =
     tie.close
     (tie.spec
-    row-requires
+    (λ c κs. search needs)
     row-requires-2
     returns)

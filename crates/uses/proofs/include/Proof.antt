@@ -17,9 +17,6 @@ join-requires c κs =
     let a = start .args in
     row-fits (a .wide) (a .o) (a .y) (length (a .t .now)) (start .pre .0 .room) (start .pre .1)
 
-same-length : tie.Need-same-length
-same-length c = search needs
-
 returns : tie.Need-returns
 returns c =
     let join = c .before .before in
@@ -29,4 +26,4 @@ returns c =
     used-include (a .x) (start .pre .1) (row-is (a .wide) 0 (a .t .now) (a .x) (start .pre .2) (row .row .ensures)) (join .join .ensures)
 
 pub include-spec : {M : Type 1} → statement M
-include-spec = tie.close (tie.spec row-requires join-requires same-length returns)
+include-spec = tie.close (tie.spec row-requires join-requires (λ c. search needs) returns)

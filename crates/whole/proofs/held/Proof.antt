@@ -16,9 +16,6 @@ row-requires c κs =
     let a = start .args in
     row-read (a .wide) 1 (length (a .t .now)) (start .pre) (variable-row (a .wide) (omega arith))
 
-meet-requires : tie.Need-meet-requires
-meet-requires c κs = search needs
-
 returns : tie.Need-returns
 returns c =
     let row = c .before in
@@ -27,4 +24,4 @@ returns c =
     ∙ ap (λ (x : ℕ). bitAnd x (value (a .wide) (a .forbidden))) (row-is (a .wide) 0 (a .t .now) 1 (variable-row (a .wide) (omega arith)) (row .row .ensures))
 
 pub held-spec : {M : Type 1} → statement M
-held-spec = tie.close (tie.spec row-requires meet-requires returns)
+held-spec = tie.close (tie.spec row-requires (λ c κs. search needs) returns)

@@ -6,18 +6,6 @@ use Rattle.apply.proofs.Calls.{functions-are, calls-nothing, call-appli
 use Rattle.apply.proofs.call.call.Statement.{statement}
 use Rattle.apply.proofs.call.call.Tie as tie
 
-held-requires : tie.Need-held-requires
-held-requires c κs = search needs
-
-functions-in-requires : tie.Need-functions-in-requires
-functions-in-requires c κs = search needs
-
-is-empty-requires : tie.Need-is-empty-requires
-is-empty-requires c κs = search needs
-
-same-length : tie.Need-same-length
-same-length c = search needs
-
 returns : tie.Need-returns
 returns c =
     let empty = c .before in
@@ -43,9 +31,6 @@ throw-on-requires c κs =
     let start = c .before .before .before .before .before .before .before .before .before .before .before .before .before .before .before .before .before .before .before in
     (record { room = search needs; apart = start .pre .0 .apart }, start .pre .1)
 
-same-length-2 : tie.Need-same-length-2
-same-length-2 c = search needs
-
 returns-2 : tie.Need-returns-2
 returns-2 c =
     let hurl = c .before .before in
@@ -64,13 +49,13 @@ pub call-spec : {M : Type 1} → statement M
 call-spec =
     tie.close
     (tie.spec
-    held-requires
-    functions-in-requires
-    is-empty-requires
-    same-length
+    (λ c κs. search needs)
+    (λ c κs. search needs)
+    (λ c κs. search needs)
+    (λ c. search needs)
     returns
     hand-all-requires
     hand-back-requires
     throw-on-requires
-    same-length-2
+    (λ c. search needs)
     returns-2)

@@ -8,32 +8,8 @@ use Rattle.apply.proofs.Conversions.{converts-nothing, convert-applies}
 use Rattle.apply.proofs.call.convert.Statement.{statement}
 use Rattle.apply.proofs.call.convert.Tie as tie
 
-held-requires : tie.Need-held-requires
-held-requires c κs = search needs
-
-told-chains-requires : tie.Need-told-chains-requires
-told-chains-requires c κs = search needs
-
-none-requires : tie.Need-none-requires
-none-requires c κs = search needs
-
-told-under-requires : tie.Need-told-under-requires
-told-under-requires c κs = search needs
-
 told-under-requires-2 : tie.Need-told-under-requires-2
 told-under-requires-2 c κs = (omega (arith, c .before .before .before .before .before .before .before .before .before .before .before .before .pre .0 .room), (omega arith, λ i. omega arith))
-
-union-requires : tie.Need-union-requires
-union-requires c κs = search needs
-
-functions-in-requires : tie.Need-functions-in-requires
-functions-in-requires c κs = search needs
-
-is-empty-requires : tie.Need-is-empty-requires
-is-empty-requires c κs = search needs
-
-same-length : tie.Need-same-length
-same-length c = search needs
 
 returns : tie.Need-returns
 returns c =
@@ -61,9 +37,6 @@ throw-on-requires c κs =
     let start = c .before .before .before .before .before .before .before .before .before .before .before .before .before .before .before .before .before .before .before .before .before .before .before .before in
     (record { room = search needs; apart = start .pre .0 .apart }, start .pre .1)
 
-same-length-2 : tie.Need-same-length-2
-same-length-2 c = search needs
-
 returns-2 : tie.Need-returns-2
 returns-2 c =
     let hurl = c .before .before in
@@ -88,17 +61,17 @@ pub convert-spec : {M : Type 1} → statement M
 convert-spec =
     tie.close
     (tie.spec
-    held-requires
-    told-chains-requires
-    none-requires
-    told-under-requires
+    (λ c κs. search needs)
+    (λ c κs. search needs)
+    (λ c κs. search needs)
+    (λ c κs. search needs)
     told-under-requires-2
-    union-requires
-    functions-in-requires
-    is-empty-requires
-    same-length
+    (λ c κs. search needs)
+    (λ c κs. search needs)
+    (λ c κs. search needs)
+    (λ c. search needs)
     returns
     spread-inputs-requires
     throw-on-requires
-    same-length-2
+    (λ c. search needs)
     returns-2)

@@ -7,12 +7,6 @@ use Rattle.sets.specs.Value.{value}
 use Rattle.apply.proofs.call.functions_in.Statement.{statement}
 use Rattle.apply.proofs.call.functions_in.Tie as tie
 
-functions-requires : tie.Need-functions-requires
-functions-requires c κs = search needs
-
-meet-requires : tie.Need-meet-requires
-meet-requires c κs = search needs
-
 returns : tie.Need-returns
 returns c =
     let a = c .before .before .args in
@@ -22,6 +16,6 @@ pub functions-in-spec : {M : Type 1} → statement M
 functions-in-spec =
     tie.close
     (tie.spec
-    functions-requires
-    meet-requires
+    (λ c κs. search needs)
+    (λ c κs. search needs)
     returns)

@@ -6,15 +6,6 @@ use Rattle.apply.proofs.Calls.{hands-nothing, hands-over}
 use Rattle.apply.proofs.call.hand_over.Statement.{statement}
 use Rattle.apply.proofs.call.hand_over.Tie as tie
 
-held-requires : tie.Need-held-requires
-held-requires c κs = search needs
-
-is-empty-requires : tie.Need-is-empty-requires
-is-empty-requires c κs = search needs
-
-same-length : tie.Need-same-length
-same-length c = search needs
-
 returns : tie.Need-returns
 returns c =
     let empty = c .before in
@@ -22,12 +13,6 @@ returns c =
     let start = held .before .before .before in
     let a = start .args in
     λ p formals functions. hands-nothing (value (a .wide) (a .fs)) (a .v .0) (a .j) (held .held .ensures) (is-none _ (empty .is-empty .ensures) (c .if1 .taken))
-
-spread-inputs-requires : tie.Need-spread-inputs-requires
-spread-inputs-requires c κs = search needs
-
-same-length-2 : tie.Need-same-length-2
-same-length-2 c = search needs
 
 returns-2 : tie.Need-returns-2
 returns-2 c =
@@ -41,10 +26,10 @@ pub hand-over-spec : {M : Type 1} → statement M
 hand-over-spec =
     tie.close
     (tie.spec
-    held-requires
-    is-empty-requires
-    same-length
+    (λ c κs. search needs)
+    (λ c κs. search needs)
+    (λ c. search needs)
     returns
-    spread-inputs-requires
-    same-length-2
+    (λ c κs. search needs)
+    (λ c. search needs)
     returns-2)

@@ -15,9 +15,6 @@ call-requires c κs =
     let start = c .before .before .before .before .before .before .before .before .before in
     (record { room = search needs; apart = start .pre .0 .apart }, start .pre .1)
 
-same-length : tie.Need-same-length
-same-length c = search needs
-
 returns : tie.Need-returns
 returns c =
     let called = c .before .before in
@@ -34,5 +31,5 @@ make-new-spec =
     (tie.spec
     make-object-requires
     call-requires
-    same-length
+    (λ c. search needs)
     returns)

@@ -7,9 +7,6 @@ use Rattle.apply.proofs.Calls.{object-applies}
 use Rattle.apply.proofs.call.make_object.Statement.{statement}
 use Rattle.apply.proofs.call.make_object.Tie as tie
 
-row-requires : tie.Need-row-requires
-row-requires c κs = search needs
-
 give-requires : tie.Need-give-requires
 give-requires c κs =
     let start = c .before .before .before in
@@ -21,15 +18,6 @@ include-held-requires c κs =
     let start = give .before .before .before .before in
     rw (reached-length (give .give .ensures .only)) (start .pre .0)
 
-held-requires : tie.Need-held-requires
-held-requires c κs = search needs
-
-told-chains-requires : tie.Need-told-chains-requires
-told-chains-requires c κs = search needs
-
-chain-requires : tie.Need-chain-requires
-chain-requires c κs = search needs
-
 look-up-requires : tie.Need-look-up-requires
 look-up-requires c κs =
     let told = c .before .before .before in
@@ -37,9 +25,6 @@ look-up-requires c κs =
     let give = same .before .before .before .before in
     let start = give .before .before .before .before in
     (rw (reached-length (same .include-held .ensures .only), reached-length (give .give .ensures .only)) (start .pre .0), c .chain .ensures .1, (omega arith, λ i. omega arith))
-
-same-length : tie.Need-same-length
-same-length c = search needs
 
 returns : tie.Need-returns
 returns c =
@@ -61,12 +46,12 @@ pub make-object-spec : {M : Type 1} → statement M
 make-object-spec =
     tie.close
     (tie.spec
-    row-requires
+    (λ c κs. search needs)
     give-requires
     include-held-requires
-    held-requires
-    told-chains-requires
-    chain-requires
+    (λ c κs. search needs)
+    (λ c κs. search needs)
+    (λ c κs. search needs)
     look-up-requires
-    same-length
+    (λ c. search needs)
     returns)

@@ -3,18 +3,6 @@ use borrow.Author.Needs.{needs}
 use Rattle.apply.proofs.plain.copy.Statement.{statement}
 use Rattle.apply.proofs.plain.copy.Tie as tie
 
-row-requires : tie.Need-row-requires
-row-requires c κs = search needs
-
-row-requires-2 : tie.Need-row-requires-2
-row-requires-2 c κs = search needs
-
-include-requires : tie.Need-include-requires
-include-requires c κs = search needs
-
-same-length : tie.Need-same-length
-same-length c = search needs
-
 returns : tie.Need-returns
 returns c =
     let include = c .before .before in
@@ -24,8 +12,8 @@ pub copy-spec : {M : Type 1} → statement M
 copy-spec =
     tie.close
     (tie.spec
-    row-requires
-    row-requires-2
-    include-requires
-    same-length
+    (λ c κs. search needs)
+    (λ c κs. search needs)
+    (λ c κs. search needs)
+    (λ c. search needs)
     returns)

@@ -4,15 +4,6 @@ use Rattle.uses.proofs.Use.{used-since, used-then}
 use Rattle.apply.proofs.plain.make_function.Statement.{statement}
 use Rattle.apply.proofs.plain.make_function.Tie as tie
 
-give-label-requires : tie.Need-give-label-requires
-give-label-requires c κs = search needs
-
-set-property-requires : tie.Need-set-property-requires
-set-property-requires c κs = search needs
-
-same-length : tie.Need-same-length
-same-length c = search needs
-
 returns : tie.Need-returns
 returns c =
     let set = c .before .before in
@@ -24,7 +15,7 @@ pub make-function-spec : {M : Type 1} → statement M
 make-function-spec =
     tie.close
     (tie.spec
-    give-label-requires
-    set-property-requires
-    same-length
+    (λ c κs. search needs)
+    (λ c κs. search needs)
+    (λ c. search needs)
     returns)

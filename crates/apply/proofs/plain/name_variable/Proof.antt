@@ -5,19 +5,10 @@ use Rattle.uses.proofs.Rows.{variable-row, property-row}
 use Rattle.apply.proofs.plain.name_variable.Statement.{statement}
 use Rattle.apply.proofs.plain.name_variable.Tie as tie
 
-row-requires : tie.Need-row-requires
-row-requires c κs = search needs
-
-property-requires : tie.Need-property-requires
-property-requires c κs = search needs
-
 same-requires : tie.Need-same-requires
 same-requires c κs =
     let start = c .before .before .before .before in
     (start .pre .0, variable-row (start .args .wide) (c .before .row .ensures .1), rw (c .property .ensures .0) (property-row (start .args .wide) (labels-some (start .args .wide)) (start .pre .1)))
-
-same-length : tie.Need-same-length
-same-length c = search needs
 
 returns : tie.Need-returns
 returns c =
@@ -28,8 +19,8 @@ pub name-variable-spec : {M : Type 1} → statement M
 name-variable-spec =
     tie.close
     (tie.spec
-    row-requires
-    property-requires
+    (λ c κs. search needs)
+    (λ c κs. search needs)
     same-requires
-    same-length
+    (λ c. search needs)
     returns)

@@ -4,15 +4,6 @@ use Rattle.uses.proofs.Use.{reached-read, used-since, used-then}
 use Rattle.apply.proofs.plain.same.Statement.{statement}
 use Rattle.apply.proofs.plain.same.Tie as tie
 
-include-requires : tie.Need-include-requires
-include-requires c κs = search needs
-
-include-requires-2 : tie.Need-include-requires-2
-include-requires-2 c κs = search needs
-
-same-length : tie.Need-same-length
-same-length c = search needs
-
 returns : tie.Need-returns
 returns c =
     let second = c .before .before in
@@ -25,7 +16,7 @@ pub same-spec : {M : Type 1} → statement M
 same-spec =
     tie.close
     (tie.spec
-    include-requires
-    include-requires-2
-    same-length
+    (λ c κs. search needs)
+    (λ c κs. search needs)
+    (λ c. search needs)
     returns)

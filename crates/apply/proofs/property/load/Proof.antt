@@ -6,27 +6,6 @@ use Rattle.apply.proofs.Properties.{load-applies}
 use Rattle.apply.proofs.property.load.Statement.{statement}
 use Rattle.apply.proofs.property.load.Tie as tie
 
-row-requires : tie.Need-row-requires
-row-requires c κs = search needs
-
-give-requires : tie.Need-give-requires
-give-requires c κs = search needs
-
-held-requires : tie.Need-held-requires
-held-requires c κs = search needs
-
-single-requires : tie.Need-single-requires
-single-requires c κs = search needs
-
-union-requires : tie.Need-union-requires
-union-requires c κs = search needs
-
-told-chains-requires : tie.Need-told-chains-requires
-told-chains-requires c κs = search needs
-
-row-requires-2 : tie.Need-row-requires-2
-row-requires-2 c κs = search needs
-
 look-up-requires : tie.Need-look-up-requires
 look-up-requires c κs =
     let row = c in
@@ -34,9 +13,6 @@ look-up-requires c κs =
     let give = told .before .before .before .before .before .before .before .before .before in
     let start = give .before .before .before .before in
     (rw (reached-length (give .give .ensures .only)) (start .pre .0), variable-row (start .args .wide) (row .row2 .ensures .1), start .pre .1)
-
-same-length : tie.Need-same-length
-same-length c = search needs
 
 returns : tie.Need-returns
 returns c =
@@ -57,13 +33,13 @@ pub load-spec : {M : Type 1} → statement M
 load-spec =
     tie.close
     (tie.spec
-    row-requires
-    give-requires
-    held-requires
-    single-requires
-    union-requires
-    told-chains-requires
-    row-requires-2
+    (λ c κs. search needs)
+    (λ c κs. search needs)
+    (λ c κs. search needs)
+    (λ c κs. search needs)
+    (λ c κs. search needs)
+    (λ c κs. search needs)
+    (λ c κs. search needs)
     look-up-requires
-    same-length
+    (λ c. search needs)
     returns)

@@ -4,24 +4,6 @@ use Rattle.apply.proofs.Properties.{store-applies}
 use Rattle.apply.proofs.property.store.Statement.{statement}
 use Rattle.apply.proofs.property.store.Tie as tie
 
-held-requires : tie.Need-held-requires
-held-requires c κs = search needs
-
-built-ins-requires : tie.Need-built-ins-requires
-built-ins-requires c κs = search needs
-
-without-requires : tie.Need-without-requires
-without-requires c κs = search needs
-
-held-requires-2 : tie.Need-held-requires-2
-held-requires-2 c κs = search needs
-
-spread-stored-requires : tie.Need-spread-stored-requires
-spread-stored-requires c κs = search needs
-
-same-length : tie.Need-same-length
-same-length c = search needs
-
 returns : tie.Need-returns
 returns c =
     let spread = c .before .before in
@@ -38,10 +20,10 @@ pub store-spec : {M : Type 1} → statement M
 store-spec =
     tie.close
     (tie.spec
-    held-requires
-    built-ins-requires
-    without-requires
-    held-requires-2
-    spread-stored-requires
-    same-length
+    (λ c κs. search needs)
+    (λ c κs. search needs)
+    (λ c κs. search needs)
+    (λ c κs. search needs)
+    (λ c κs. search needs)
+    (λ c. search needs)
     returns)

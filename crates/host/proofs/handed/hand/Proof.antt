@@ -6,20 +6,11 @@ use borrow.Author.Needs.{needs}
 use Rattle.host.proofs.handed.hand.Statement.{statement}
 use Rattle.host.proofs.handed.hand.Tie as tie
 
-cast-l : tie.Need-cast-l
-cast-l c = search needs
-
-hand-words-requires : tie.Need-hand-words-requires
-hand-words-requires c κs = search needs
-
 returns : tie.Need-returns
 returns c =
     let f = c .before .before .before .before .args .f .0 in
     let e : f % 64 ≡ f = search needs in
     rw (lt-ltb f 64 (search needs), e) (c .hand-words .ensures)
-
-hand-words-requires-2 : tie.Need-hand-words-requires-2
-hand-words-requires-2 c κs = search needs
 
 returns-2 : tie.Need-returns-2
 returns-2 c =
@@ -27,17 +18,11 @@ returns-2 c =
     let e : f % 64 ≡ f - 64 = search needs in
     rw (le-ltb f 64 (search needs), lt-ltb f 128 (search needs), e) (c .hand-words2 .ensures)
 
-hand-words-requires-3 : tie.Need-hand-words-requires-3
-hand-words-requires-3 c κs = search needs
-
 returns-3 : tie.Need-returns-3
 returns-3 c =
     let f = c .before .before .before .before .before .before .args .f .0 in
     let e : f % 64 ≡ f - 128 = search needs in
     rw (le-ltb f 64 (search needs), le-ltb f 128 (search needs), lt-ltb f 192 (search needs), e) (c .hand-words3 .ensures)
-
-hand-words-requires-4 : tie.Need-hand-words-requires-4
-hand-words-requires-4 c κs = search needs
 
 returns-4 : tie.Need-returns-4
 returns-4 c =
@@ -49,12 +34,12 @@ pub hand-spec : {M : Type 1} → statement M
 hand-spec =
     tie.close
     (tie.spec
-    cast-l
-    hand-words-requires
+    (λ c. search needs)
+    (λ c κs. search needs)
     returns
-    hand-words-requires-2
+    (λ c κs. search needs)
     returns-2
-    hand-words-requires-3
+    (λ c κs. search needs)
     returns-3
-    hand-words-requires-4
+    (λ c κs. search needs)
     returns-4)

@@ -17,12 +17,6 @@ bag = theSite .result
 abbrev label : Label
 label = theSite .scope
 
-guest-site-requires : tie.Need-guest-site-requires
-guest-site-requires c κs = search needs
-
-guest-site-requires-2 : tie.Need-guest-site-requires-2
-guest-site-requires-2 c κs = search needs
-
 returns : tie.Need-returns
 returns c = said-at 0 (MakeFunction bag label label) (c .match .keys1) (record { rule = λ p. refl; bounded = λ wide. (three-labels wide, three-labels wide) })
 
@@ -53,8 +47,8 @@ pub statement-spec : {M : Type 1} → statement M
 statement-spec =
     tie.close
     (tie.spec
-    guest-site-requires
-    guest-site-requires-2
+    (λ c κs. search needs)
+    (λ c κs. search needs)
     returns
     returns-2
     returns-3

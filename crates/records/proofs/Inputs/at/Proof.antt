@@ -16,26 +16,8 @@ last i (suc (suc (suc (suc zero)))) a b c d e f = absurd (e refl)
 last i (suc (suc (suc (suc (suc zero))))) a b c d e f = absurd (f refl)
 last i (suc (suc (suc (suc (suc (suc j)))))) a b c d e f = refl
 
-returns : tie.Need-returns
-returns c = search needs
-
-returns-2 : tie.Need-returns-2
-returns-2 c = search needs
-
-returns-3 : tie.Need-returns-3
-returns-3 c = search needs
-
-returns-4 : tie.Need-returns-4
-returns-4 c = search needs
-
-returns-5 : tie.Need-returns-5
-returns-5 c = search needs
-
-returns-6 : tie.Need-returns-6
-returns-6 c = search needs
-
 returns-7 : tie.Need-returns-7
 returns-7 c = last (c .before .before .args .self) (c .before .before .args .j) (search needs) (search needs) (search needs) (search needs) (search needs) (search needs)
 
 pub at-spec : {M : Type 1} → statement M
-at-spec = tie.close (tie.spec returns returns-2 returns-3 returns-4 returns-5 returns-6 returns-7)
+at-spec = tie.close (tie.spec (λ c. search needs) (λ c. search needs) (λ c. search needs) (λ c. search needs) (λ c. search needs) (λ c. search needs) returns-7)

@@ -6,24 +6,6 @@ use Rattle.search.proofs.Begins.{begins-more}
 use Rattle.search.proofs.index.enter.Statement.{statement}
 use Rattle.search.proofs.index.enter.Tie as tie
 
-byte-requires : tie.Need-byte-requires
-byte-requires c κs = search needs
-
-reads-requires : tie.Need-reads-requires
-reads-requires c κs = search needs
-
-returns : tie.Need-returns
-returns c = search needs
-
-set-start-requires : tie.Need-set-start-requires
-set-start-requires c κs = search needs
-
-set-start-requires-2 : tie.Need-set-start-requires-2
-set-start-requires-2 c κs = search needs
-
-enter-reads-requires : tie.Need-enter-reads-requires
-enter-reads-requires c κs = search needs
-
 returns-2 : tie.Need-returns-2
 returns-2 c =
     let high = c .before .before .before in
@@ -38,10 +20,10 @@ pub enter-spec : {M : Type 1} → statement M
 enter-spec =
     tie.close
     (tie.spec
-    byte-requires
-    reads-requires
-    returns
-    set-start-requires
-    set-start-requires-2
-    enter-reads-requires
+    (λ c κs. search needs)
+    (λ c κs. search needs)
+    (λ c. search needs)
+    (λ c κs. search needs)
+    (λ c κs. search needs)
+    (λ c κs. search needs)
     returns-2)

@@ -13,24 +13,6 @@ returns c = λ b i h o. inr o
 returns-2 : tie.Need-returns-2
 returns-2 c = λ b i h o. inr o
 
-mul-join : tie.Need-mul-join
-mul-join c = search needs
-
-element-copy-out-join : tie.Need-element-copy-out-join
-element-copy-out-join c = search needs
-
-single-requires : tie.Need-single-requires
-single-requires c κs = search needs
-
-join-requires : tie.Need-join-requires
-join-requires c κs = search needs
-
-mul-starts : tie.Need-mul-starts
-mul-starts c = search needs
-
-element-write-starts : tie.Need-element-write-starts
-element-write-starts c = search needs
-
 returns-3 : tie.Need-returns-3
 returns-3 c =
     let start = c .before .before .before .before .before in
@@ -44,10 +26,10 @@ set-start-spec =
     (tie.spec
     returns
     returns-2
-    mul-join
-    element-copy-out-join
-    single-requires
-    join-requires
-    mul-starts
-    element-write-starts
+    (λ c. search needs)
+    (λ c. search needs)
+    (λ c κs. search needs)
+    (λ c κs. search needs)
+    (λ c. search needs)
+    (λ c. search needs)
     returns-3)

@@ -10,15 +10,6 @@ use Rattle.search.proofs.next.confirmed.Tie as tie
 returns : tie.Need-returns
 returns c = λ L file b h. absurd (omega (arith, h))
 
-mul-has : tie.Need-mul-has
-mul-has c = search needs
-
-element-copy-out-has : tie.Need-element-copy-out-has
-element-copy-out-has c = search needs
-
-has-requires : tie.Need-has-requires
-has-requires c κs = search needs
-
 returns-2 : tie.Need-returns-2
 returns-2 c =
     let a = c .before .before .before .before .before .args in
@@ -26,15 +17,6 @@ returns-2 c =
 
 returns-3 : tie.Need-returns-3
 returns-3 c = λ L file b h. absurd (omega (arith, h))
-
-mul-has-2 : tie.Need-mul-has-2
-mul-has-2 c = search needs
-
-element-copy-out-has-2 : tie.Need-element-copy-out-has-2
-element-copy-out-has-2 c = search needs
-
-has-requires-2 : tie.Need-has-requires-2
-has-requires-2 c κs = search needs
 
 returns-4 : tie.Need-returns-4
 returns-4 c =
@@ -52,14 +34,14 @@ confirmed-spec =
     tie.close
     (tie.spec
     returns
-    mul-has
-    element-copy-out-has
-    has-requires
+    (λ c. search needs)
+    (λ c. search needs)
+    (λ c κs. search needs)
     returns-2
     returns-3
-    mul-has-2
-    element-copy-out-has-2
-    has-requires-2
+    (λ c. search needs)
+    (λ c. search needs)
+    (λ c κs. search needs)
     returns-4
     returns-5
     returns-6)

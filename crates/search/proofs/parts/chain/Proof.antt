@@ -6,18 +6,6 @@ use Rattle.uses.proofs.Rows.{row-read}
 use Rattle.search.proofs.parts.chain.Statement.{statement}
 use Rattle.search.proofs.parts.chain.Tie as tie
 
-labels-requires : tie.Need-labels-requires
-labels-requires c κs = search needs
-
-place-of-requires : tie.Need-place-of-requires
-place-of-requires c κs = search needs
-
-none-requires : tie.Need-none-requires
-none-requires c κs = search needs
-
-returns : tie.Need-returns
-returns c = search needs
-
 chain-requires : tie.Need-chain-requires
 chain-requires c κs = omega (arith, c .before .before .labels .ensures .0, c .before .place-of .ensures .1, c .if1 .left)
 
@@ -27,17 +15,14 @@ row-requires c κs =
     let a = start .args in
     row-read (a .wide) (c .chain .result) (length (a .t .now)) (start .pre) (c .chain .ensures .1)
 
-returns-2 : tie.Need-returns-2
-returns-2 c = search needs
-
 pub chain-spec : {M : Type 1} → statement M
 chain-spec =
     tie.close
     (tie.spec
-    labels-requires
-    place-of-requires
-    none-requires
-    returns
+    (λ c κs. search needs)
+    (λ c κs. search needs)
+    (λ c κs. search needs)
+    (λ c. search needs)
     chain-requires
     row-requires
-    returns-2)
+    (λ c. search needs))

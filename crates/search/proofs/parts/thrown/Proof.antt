@@ -6,18 +6,6 @@ use Rattle.uses.proofs.Rows.{row-read}
 use Rattle.search.proofs.parts.thrown.Statement.{statement}
 use Rattle.search.proofs.parts.thrown.Tie as tie
 
-labels-requires : tie.Need-labels-requires
-labels-requires c κs = search needs
-
-place-of-requires : tie.Need-place-of-requires
-place-of-requires c κs = search needs
-
-none-requires : tie.Need-none-requires
-none-requires c κs = search needs
-
-returns : tie.Need-returns
-returns c = search needs
-
 thrown-requires : tie.Need-thrown-requires
 thrown-requires c κs = omega (arith, c .before .before .labels .ensures .0, c .before .place-of .ensures .1, c .if1 .left)
 
@@ -27,17 +15,14 @@ row-requires c κs =
     let a = start .args in
     row-read (a .wide) (c .thrown .result) (length (a .t .now)) (start .pre) (c .thrown .ensures .1)
 
-returns-2 : tie.Need-returns-2
-returns-2 c = search needs
-
 pub thrown-spec : {M : Type 1} → statement M
 thrown-spec =
     tie.close
     (tie.spec
-    labels-requires
-    place-of-requires
-    none-requires
-    returns
+    (λ c κs. search needs)
+    (λ c κs. search needs)
+    (λ c κs. search needs)
+    (λ c. search needs)
     thrown-requires
     row-requires
-    returns-2)
+    (λ c. search needs))

@@ -7,21 +7,6 @@ use Rattle.shared.proofs.Applied.{applies-spread}
 use Rattle.shared.proofs.spread.spread_inputs.Statement.{statement}
 use Rattle.shared.proofs.spread.spread_inputs.Tie as tie
 
-add-pair : tie.Need-add-pair
-add-pair c = search needs
-
-leave-requires : tie.Need-leave-requires
-leave-requires c κs = search needs
-
-spread-input-requires : tie.Need-spread-input-requires
-spread-input-requires c κs = search needs
-
-learn-requires : tie.Need-learn-requires
-learn-requires c κs = search needs
-
-same-length : tie.Need-same-length
-same-length c = search needs
-
 returns : tie.Need-returns
 returns c =
     let done = c .before .before .before .before .before in
@@ -36,9 +21,9 @@ pub spread-inputs-spec : {M : Type 1} → statement M
 spread-inputs-spec =
     tie.close
     (tie.spec
-    add-pair
-    leave-requires
-    spread-input-requires
-    learn-requires
-    same-length
+    (λ c. search needs)
+    (λ c κs. search needs)
+    (λ c κs. search needs)
+    (λ c κs. search needs)
+    (λ c. search needs)
     returns)

@@ -6,24 +6,6 @@ use Rattle.shared.proofs.Families.{named-takes, takes-named}
 use Rattle.shared.proofs.spread.spread_stored.Statement.{statement}
 use Rattle.shared.proofs.spread.spread_stored.Tie as tie
 
-stored-pair-requires : tie.Need-stored-pair-requires
-stored-pair-requires c κs = search needs
-
-leave-requires : tie.Need-leave-requires
-leave-requires c κs = search needs
-
-names-requires : tie.Need-names-requires
-names-requires c κs = search needs
-
-spread-under-requires : tie.Need-spread-under-requires
-spread-under-requires c κs = search needs
-
-learn-requires : tie.Need-learn-requires
-learn-requires c κs = search needs
-
-same-length : tie.Need-same-length
-same-length c = search needs
-
 returns : tie.Need-returns
 returns c =
     let done = c .before .before .before .before .before in
@@ -41,10 +23,10 @@ pub spread-stored-spec : {M : Type 1} → statement M
 spread-stored-spec =
     tie.close
     (tie.spec
-    stored-pair-requires
-    leave-requires
-    names-requires
-    spread-under-requires
-    learn-requires
-    same-length
+    (λ c κs. search needs)
+    (λ c κs. search needs)
+    (λ c κs. search needs)
+    (λ c κs. search needs)
+    (λ c κs. search needs)
+    (λ c. search needs)
     returns)

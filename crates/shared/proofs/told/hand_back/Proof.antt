@@ -7,9 +7,6 @@ use Rattle.shared.proofs.Applied.{applies-told}
 use Rattle.shared.proofs.told.hand_back.Statement.{statement}
 use Rattle.shared.proofs.told.hand_back.Tie as tie
 
-row-requires : tie.Need-row-requires
-row-requires c κs = search needs
-
 row-requires-2 : tie.Need-row-requires-2
 row-requires-2 c κs =
     let row = c .before in
@@ -17,18 +14,12 @@ row-requires-2 c κs =
     let a = start .args in
     row-fits (a .wide) (a .o) (row .row .result) (length (a .t .now)) (start .pre .room) (variable-row (a .wide) (row .row .ensures .1))
 
-told-handed-requires : tie.Need-told-handed-requires
-told-handed-requires c κs = search needs
-
 join-requires : tie.Need-join-requires
 join-requires c κs =
     let row = c .before .before .before .before .before .before in
     let start = row .before .before in
     let a = start .args in
     row-fits (a .wide) (a .o) (row .row .result) (length (a .t .now)) (start .pre .room) (variable-row (a .wide) (row .row .ensures .1))
-
-same-length : tie.Need-same-length
-same-length c = search needs
 
 returns : tie.Need-returns
 returns c =
@@ -47,9 +38,9 @@ pub hand-back-spec : {M : Type 1} → statement M
 hand-back-spec =
     tie.close
     (tie.spec
-    row-requires
+    (λ c κs. search needs)
     row-requires-2
-    told-handed-requires
+    (λ c κs. search needs)
     join-requires
-    same-length
+    (λ c. search needs)
     returns)

@@ -13,17 +13,11 @@ row-requires c κs =
     let a = start .args in
     row-fits (a .wide) (a .o) (a .y) (length (a .t .now)) (start .pre .0 .room) (start .pre .1)
 
-told-under-requires : tie.Need-told-under-requires
-told-under-requires c κs = search needs
-
 join-requires : tie.Need-join-requires
 join-requires c κs =
     let start = c .before .before .before .before .before .before .before in
     let a = start .args in
     row-fits (a .wide) (a .o) (a .y) (length (a .t .now)) (start .pre .0 .room) (start .pre .1)
-
-same-length : tie.Need-same-length
-same-length c = search needs
 
 returns : tie.Need-returns
 returns c =
@@ -40,7 +34,7 @@ look-up-spec =
     tie.close
     (tie.spec
     row-requires
-    told-under-requires
+    (λ c κs. search needs)
     join-requires
-    same-length
+    (λ c. search needs)
     returns)

@@ -7,9 +7,6 @@ use Rattle.shared.proofs.Applied.{applies-told}
 use Rattle.shared.proofs.told.throw_on.Statement.{statement}
 use Rattle.shared.proofs.told.throw_on.Tie as tie
 
-thrown-requires : tie.Need-thrown-requires
-thrown-requires c κs = search needs
-
 row-requires : tie.Need-row-requires
 row-requires c κs =
     let thrown = c .before in
@@ -17,18 +14,12 @@ row-requires c κs =
     let a = start .args in
     row-fits (a .wide) (a .o) (thrown .thrown .result) (length (a .t .now)) (start .pre .0 .room) (thrown .thrown .ensures .1)
 
-told-throws-requires : tie.Need-told-throws-requires
-told-throws-requires c κs = search needs
-
 join-requires : tie.Need-join-requires
 join-requires c κs =
     let thrown = c .before .before .before .before .before .before in
     let start = thrown .before .before in
     let a = start .args in
     row-fits (a .wide) (a .o) (thrown .thrown .result) (length (a .t .now)) (start .pre .0 .room) (thrown .thrown .ensures .1)
-
-same-length : tie.Need-same-length
-same-length c = search needs
 
 returns : tie.Need-returns
 returns c =
@@ -46,9 +37,9 @@ pub throw-on-spec : {M : Type 1} → statement M
 throw-on-spec =
     tie.close
     (tie.spec
-    thrown-requires
+    (λ c κs. search needs)
     row-requires
-    told-throws-requires
+    (λ c κs. search needs)
     join-requires
-    same-length
+    (λ c. search needs)
     returns)

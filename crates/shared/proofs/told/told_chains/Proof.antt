@@ -6,20 +6,8 @@ use Rattle.shared.proofs.Families.{labels-some, chains-told}
 use Rattle.shared.proofs.told.told_chains.Statement.{statement}
 use Rattle.shared.proofs.told.told_chains.Tie as tie
 
-chain-pair-requires : tie.Need-chain-pair-requires
-chain-pair-requires c κs = search needs
-
-none-requires : tie.Need-none-requires
-none-requires c κs = search needs
-
-ask-requires : tie.Need-ask-requires
-ask-requires c κs = search needs
-
 chain-requires : tie.Need-chain-requires
 chain-requires c κs = labels-some (c .before .before .before .before .before .before .args .wide)
-
-gather-requires : tie.Need-gather-requires
-gather-requires c κs = search needs
 
 answer-requires : tie.Need-answer-requires
 answer-requires c κs = asks-room (c .before .before .before .before .ask .ensures)
@@ -39,10 +27,10 @@ pub told-chains-spec : {M : Type 1} → statement M
 told-chains-spec =
     tie.close
     (tie.spec
-    chain-pair-requires
-    none-requires
-    ask-requires
+    (λ c κs. search needs)
+    (λ c κs. search needs)
+    (λ c κs. search needs)
     chain-requires
-    gather-requires
+    (λ c κs. search needs)
     answer-requires
     returns)

@@ -6,12 +6,6 @@ use Rattle.shared.proofs.Families.{handed-told, rest-part}
 use Rattle.shared.proofs.told.told_handed.Statement.{statement}
 use Rattle.shared.proofs.told.told_handed.Tie as tie
 
-ask-requires : tie.Need-ask-requires
-ask-requires c κs = search needs
-
-gather-handed-requires : tie.Need-gather-handed-requires
-gather-handed-requires c κs = search needs
-
 answer-requires : tie.Need-answer-requires
 answer-requires c κs = asks-room (c .before .before .before .ask .ensures)
 
@@ -26,7 +20,7 @@ pub told-handed-spec : {M : Type 1} → statement M
 told-handed-spec =
     tie.close
     (tie.spec
-    ask-requires
-    gather-handed-requires
+    (λ c κs. search needs)
+    (λ c κs. search needs)
     answer-requires
     returns)

@@ -6,14 +6,8 @@ use Rattle.shared.proofs.Families.{labels-some, throws-told}
 use Rattle.shared.proofs.told.told_throws.Statement.{statement}
 use Rattle.shared.proofs.told.told_throws.Tie as tie
 
-ask-requires : tie.Need-ask-requires
-ask-requires c κs = search needs
-
 thrown-requires : tie.Need-thrown-requires
 thrown-requires c κs = labels-some (c .before .before .before .before .args .wide)
-
-gather-requires : tie.Need-gather-requires
-gather-requires c κs = search needs
 
 answer-requires : tie.Need-answer-requires
 answer-requires c κs = asks-room (c .before .before .before .before .ask .ensures)
@@ -31,8 +25,8 @@ pub told-throws-spec : {M : Type 1} → statement M
 told-throws-spec =
     tie.close
     (tie.spec
-    ask-requires
+    (λ c κs. search needs)
     thrown-requires
-    gather-requires
+    (λ c κs. search needs)
     answer-requires
     returns)

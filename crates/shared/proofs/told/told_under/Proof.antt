@@ -5,18 +5,6 @@ use Rattle.shared.proofs.Families.{under-told}
 use Rattle.shared.proofs.told.told_under.Statement.{statement}
 use Rattle.shared.proofs.told.told_under.Tie as tie
 
-under-pair-requires : tie.Need-under-pair-requires
-under-pair-requires c κs = search needs
-
-ask-requires : tie.Need-ask-requires
-ask-requires c κs = search needs
-
-names-requires : tie.Need-names-requires
-names-requires c κs = search needs
-
-gather-under-requires : tie.Need-gather-under-requires
-gather-under-requires c κs = search needs
-
 answer-requires : tie.Need-answer-requires
 answer-requires c κs = asks-room (c .before .before .before .before .ask .ensures)
 
@@ -35,9 +23,9 @@ pub told-under-spec : {M : Type 1} → statement M
 told-under-spec =
     tie.close
     (tie.spec
-    under-pair-requires
-    ask-requires
-    names-requires
-    gather-under-requires
+    (λ c κs. search needs)
+    (λ c κs. search needs)
+    (λ c κs. search needs)
+    (λ c κs. search needs)
     answer-requires
     returns)

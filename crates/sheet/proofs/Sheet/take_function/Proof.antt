@@ -12,15 +12,6 @@ use borrow.Author.Needs.{needs}
 use Rattle.sheet.proofs.Sheet.take_function.Statement.{statement}
 use Rattle.sheet.proofs.Sheet.take_function.Tie as tie
 
-shared-slice-read-index : tie.Need-shared-slice-read-index
-shared-slice-read-index c = search needs
-
-index-requires : tie.Need-index-requires
-index-requires c κs = search needs
-
-element-copy-out-if1 : tie.Need-element-copy-out-if1
-element-copy-out-if1 c = search needs
-
 returns : tie.Need-returns
 unfolding wholeRefusal misnamed twice after
 returns c =
@@ -28,21 +19,6 @@ returns c =
     let e = c .before .before .index .ensures .0 in
     let h = c .before .before .before .before .before .pre .1 in
     rw (cut-entry (labels (v .wide)) (v .t1 .defined) _ _ e h) (search cases)
-
-element-write-self : tie.Need-element-write-self
-element-write-self c = search needs
-
-sub-fill : tie.Need-sub-fill
-sub-fill c = search needs
-
-part-fill-start : tie.Need-part-fill-start
-part-fill-start c = search needs
-
-part-fill-end : tie.Need-part-fill-end
-part-fill-end c = search needs
-
-fill-requires : tie.Need-fill-requires
-fill-requires c κs = search needs
 
 returns-2 : tie.Need-returns-2
 unfolding wholeRefusal misnamed twice after
@@ -63,13 +39,13 @@ pub take-function-spec : {M : Type 1} → statement M
 take-function-spec =
     tie.close
     (tie.spec
-    shared-slice-read-index
-    index-requires
-    element-copy-out-if1
+    (λ c. search needs)
+    (λ c κs. search needs)
+    (λ c. search needs)
     returns
-    element-write-self
-    sub-fill
-    part-fill-start
-    part-fill-end
-    fill-requires
+    (λ c. search needs)
+    (λ c. search needs)
+    (λ c. search needs)
+    (λ c. search needs)
+    (λ c κs. search needs)
     returns-2)

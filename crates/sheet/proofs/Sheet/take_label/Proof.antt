@@ -8,15 +8,6 @@ use borrow.Author.Needs.{needs}
 use Rattle.sheet.proofs.Sheet.take_label.Statement.{statement}
 use Rattle.sheet.proofs.Sheet.take_label.Tie as tie
 
-shared-slice-read-index : tie.Need-shared-slice-read-index
-shared-slice-read-index c = search needs
-
-index-requires : tie.Need-index-requires
-index-requires c κs = search needs
-
-element-copy-out-if1 : tie.Need-element-copy-out-if1
-element-copy-out-if1 c = search needs
-
 returns : tie.Need-returns
 unfolding wholeRefusal misnamed twice after
 returns c =
@@ -24,18 +15,6 @@ returns c =
     let e = c .before .before .index .ensures .0 in
     let h = c .before .before .before .before .before .pre .1 in
     rw (cut-entry (labels (v .wide)) (v .t1 .types) _ _ e h) (search cases)
-
-shared-slice-read-self : tie.Need-shared-slice-read-self
-shared-slice-read-self c = search needs
-
-element-write-self : tie.Need-element-write-self
-element-write-self c = search needs
-
-shared-slice-read-self-2 : tie.Need-shared-slice-read-self-2
-shared-slice-read-self-2 c = search needs
-
-element-write-self-2 : tie.Need-element-write-self-2
-element-write-self-2 c = search needs
 
 returns-2 : tie.Need-returns-2
 unfolding wholeRefusal misnamed twice after
@@ -51,12 +30,12 @@ pub take-label-spec : {M : Type 1} → statement M
 take-label-spec =
     tie.close
     (tie.spec
-    shared-slice-read-index
-    index-requires
-    element-copy-out-if1
+    (λ c. search needs)
+    (λ c κs. search needs)
+    (λ c. search needs)
     returns
-    shared-slice-read-self
-    element-write-self
-    shared-slice-read-self-2
-    element-write-self-2
+    (λ c. search needs)
+    (λ c. search needs)
+    (λ c. search needs)
+    (λ c. search needs)
     returns-2)

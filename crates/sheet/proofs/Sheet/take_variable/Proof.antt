@@ -7,32 +7,11 @@ use borrow.Author.Needs.{needs}
 use Rattle.sheet.proofs.Sheet.take_variable.Statement.{statement}
 use Rattle.sheet.proofs.Sheet.take_variable.Tie as tie
 
-shared-slice-read-index : tie.Need-shared-slice-read-index
-shared-slice-read-index c = search needs
-
-index-requires : tie.Need-index-requires
-index-requires c κs = search needs
-
-shared-slice-read-owner : tie.Need-shared-slice-read-owner
-shared-slice-read-owner c = search needs
-
-shared-slice-read-name : tie.Need-shared-slice-read-name
-shared-slice-read-name c = search needs
-
-both-requires : tie.Need-both-requires
-both-requires c κs = search needs
-
 returns : tie.Need-returns
 returns c =
     let v = c .before .before .before .before .before .before .before .args in
     let s = sheetOf (v .wide) (v .t1) in
     refused s 5 (v .body .now) 5 refl (variable-misnamed s (v .body .now) (sym (c .before .both .ensures) ∙ c .if1 .taken))
-
-shared-slice-read-owner-of : tie.Need-shared-slice-read-owner-of
-shared-slice-read-owner-of c = search needs
-
-owner-of-requires : tie.Need-owner-of-requires
-owner-of-requires c κs = search needs
 
 returns-2 : tie.Need-returns-2
 returns-2 c =
@@ -40,12 +19,6 @@ returns-2 c =
     let v = o .before .before .before .before .before .before .before .args in
     let s = sheetOf (v .wide) (v .t1) in
     refused s 5 (v .body .now) 6 refl (variable-twice s (v .body .now) (sym (o .before .both .ensures) ∙ o .if1 .left) (λ z. c .if2 .taken (c .before .owner-of .ensures ∙ z)))
-
-element-write-self : tie.Need-element-write-self
-element-write-self c = search needs
-
-element-write-self-2 : tie.Need-element-write-self-2
-element-write-self-2 c = search needs
 
 returns-3 : tie.Need-returns-3
 unfolding after
@@ -60,15 +33,15 @@ pub take-variable-spec : {M : Type 1} → statement M
 take-variable-spec =
     tie.close
     (tie.spec
-    shared-slice-read-index
-    index-requires
-    shared-slice-read-owner
-    shared-slice-read-name
-    both-requires
+    (λ c. search needs)
+    (λ c κs. search needs)
+    (λ c. search needs)
+    (λ c. search needs)
+    (λ c κs. search needs)
     returns
-    shared-slice-read-owner-of
-    owner-of-requires
+    (λ c. search needs)
+    (λ c κs. search needs)
     returns-2
-    element-write-self
-    element-write-self-2
+    (λ c. search needs)
+    (λ c. search needs)
     returns-3)

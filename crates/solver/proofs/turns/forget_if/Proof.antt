@@ -4,9 +4,6 @@ use Rattle.kept.proofs.Remembers.{remembers-since}
 use Rattle.solver.proofs.turns.forget_if.Statement.{statement}
 use Rattle.solver.proofs.turns.forget_if.Tie as tie
 
-forget-requires : tie.Need-forget-requires
-forget-requires c κs = search needs
-
 returns : tie.Need-returns
 returns c = λ o p old t since m. remembers-since since (c .forget .ensures o p old t m)
 
@@ -17,6 +14,6 @@ pub forget-if-spec : {M : Type 1} → statement M
 forget-if-spec =
     tie.close
     (tie.spec
-    forget-requires
+    (λ c κs. search needs)
     returns
     returns-2)

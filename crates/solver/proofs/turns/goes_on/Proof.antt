@@ -7,12 +7,9 @@ use Rattle.solver.proofs.turns.goes_on.Tie as tie
 returns : tie.Need-returns
 returns c = λ e. never e
 
-returns-2 : tie.Need-returns-2
-returns-2 c = search needs
-
 pub goes-on-spec : {M : Type 1} → statement M
 goes-on-spec =
     tie.close
     (tie.spec
     returns
-    returns-2)
+    (λ c. search needs))

@@ -7,12 +7,6 @@ use Rattle.solver.proofs.Turning.{steps-lines, steps-record, steps-none
 use Rattle.solver.proofs.turns.use_at.Statement.{statement}
 use Rattle.solver.proofs.turns.use_at.Tie as tie
 
-lines-requires : tie.Need-lines-requires
-lines-requires c κs = search needs
-
-same-length : tie.Need-same-length
-same-length c = search needs
-
 returns : tie.Need-returns
 returns c =
     let lines = c .before .before in
@@ -23,12 +17,6 @@ statement-at-requires c κs =
     let start = c .before .before .before .before in
     let named = start .pre .2 (c .if2 .taken) in
     (named .0, named .1, readable-read (labels (start .args .wide)) (start .args .file .now) (start .pre .1) .short)
-
-apply-requires : tie.Need-apply-requires
-apply-requires c κs = search needs
-
-same-length-2 : tie.Need-same-length-2
-same-length-2 c = search needs
 
 returns-2 : tie.Need-returns-2
 returns-2 c =
@@ -46,11 +34,11 @@ pub use-at-spec : {M : Type 1} → statement M
 use-at-spec =
     tie.close
     (tie.spec
-    lines-requires
-    same-length
+    (λ c κs. search needs)
+    (λ c. search needs)
     returns
     statement-at-requires
-    apply-requires
-    same-length-2
+    (λ c κs. search needs)
+    (λ c. search needs)
     returns-2
     returns-3)

@@ -23,12 +23,6 @@ row-requires c κs =
     let a = start .args in
     rw (join .join .ensures .same-length) (row-fits (a .wide) (a .o) (a .r) (length (a .t .now)) (start .pre .0 .room) (start .pre .1))
 
-meet-requires : tie.Need-meet-requires
-meet-requires c κs = search needs
-
-same-length : tie.Need-same-length
-same-length c = search needs
-
 returns-2 : tie.Need-returns-2
 returns-2 c =
     let meet = c in
@@ -42,4 +36,4 @@ returns-2 c =
 
 pub spread-one-spec : {M : Type 1} → statement M
 spread-one-spec =
-    tie.close (tie.spec returns join-requires row-requires meet-requires same-length returns-2)
+    tie.close (tie.spec returns join-requires row-requires (λ c κs. search needs) (λ c. search needs) returns-2)

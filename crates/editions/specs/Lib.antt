@@ -1,0 +1,2 @@
+-- What two editions say of a file that both read.
+pub mod Same

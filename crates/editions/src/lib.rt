@@ -1,0 +1,1 @@
+// What two editions say of a file that both read: definitions and theorems, no code.
