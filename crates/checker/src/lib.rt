@@ -1,6 +1,5 @@
 // The check's look at a table that is given: one use of all rules on a copy of it shows the lowest row that lacks something.
 ghost use mathlib.Core.Path.{_≡_};
-ghost use mathlib.Core.Bool.{true, false};
 ghost use Prim.Native.Nat.{_*_, _≤_};
 ghost use lib.ListN.{length};
 ghost use Rattle.rows.specs.Edition.{labels};
@@ -72,22 +71,4 @@ pub fn lowest_gap(file: &[u8], sheet: Sheet, table: &[u64], wide: bool, t: &mut 
         &sheet.masks,
         &sheet.formals,
     )
-}
-
-// The same in the edition of 64 labels, with room of its own.
-pub fn check_small(file: &[u8], sheet: Sheet, table: &[u64]) -> usize
-    requires { ⌜ (2432 ≤ length (now table)) × Readable 64 (now file) × (sheetOf false sheet ≡ readFile 64 (now file) .sheet) ⌝ }
-    ensures { λ r. ⌜ r ≡ gap 64 (cleaned 64 (readFile 64 (now (file .entry)) .sheet) (now (table .entry))) (rules 64 (programOf (readFile 64 (now (file .entry))))) ⌝ }
-{
-    let mut t = [0u64; 4864];
-    lowest_gap(file, sheet, table, false, &mut t)
-}
-
-// The same in the edition of 256 labels.
-pub fn check_large(file: &[u8], sheet: Sheet, table: &[u64]) -> usize
-    requires { ⌜ (35840 ≤ length (now table)) × Readable 256 (now file) × (sheetOf true sheet ≡ readFile 256 (now file) .sheet) ⌝ }
-    ensures { λ r. ⌜ r ≡ gap 256 (cleaned 256 (readFile 256 (now (file .entry)) .sheet) (tableAt true 0 (now (table .entry)))) (rules 256 (programOf (readFile 256 (now (file .entry))))) ⌝ }
-{
-    let mut t = [0u64; 71680];
-    lowest_gap(file, sheet, table, true, &mut t)
 }

@@ -10,20 +10,21 @@ use native.Mathlib.Omega.{arith}
 use lib.Bits.{bitAnd}
 use lib.Dec.{eqb}
 use lib.ListN.{length, getD, set, take, drop, length-drop}
-use lib.Seq.{ext-getD, getD-set-same, getD-set-other, getD-take, getD-drop, take-all, take-take}
+use lib.Seq.{ext-getD, getD-set-same, getD-set-other, getD-take, getD-drop, take-all}
 use Rattle.words.specs.Words.{union}
 use Rattle.rows.specs.Edition.{labels, words}
 use Rattle.rows.specs.Row.{rowCount}
 use Rattle.rules.specs.Table.{Table}
-use Rattle.rows.specs.Run.{number}
+use Rattle.rows.specs.Run.{number, rowsOf}
 use Rattle.format.specs.Sheet.{Sheet}
 use Rattle.verdicts.specs.Check.{declaredWord, masked, cleaned}
 use Rattle.lent.specs.Table.{wordCount, tableAt, place}
 use Rattle.lent.specs.Stored.{Stored}
-use Rattle.lent.proofs.Views.{view-same, view-stored}
+use Rattle.rows.proofs.Run.{view-same}
+use Rattle.lent.proofs.Views.{view-stored}
 use Rattle.uses.proofs.Rows.{row-is}
 use Rattle.whole.proofs.Tables.{table-length}
-use Rattle.whole.proofs.Narrow.{narrow-table}
+use Rattle.whole.proofs.Rows.{table-rows}
 use Rattle.cleaning.specs.Copies.{Both, BothStored}
 
 -- ---- the declared labels
@@ -158,10 +159,11 @@ cleans-all {w} {u} wide given r e below s is =
         ext-getD 0 (tableAt wide o u) (cleaned L s c) (table-length wide o u ∙ sym (cleaned-length L s c (table-length wide 0 given)))
         (λ q i. rows q (rw (table-length wide o u, ← e) at i) ∙ ap (λ (x : ℕ). cleanedRow x c q) is ∙ sym (cleaned-row L s c (table-length wide 0 given) q))
 
--- ---- the edition of 64 labels: words beyond the rows do not count
+-- ---- rows beyond the table do not count
 
-pub cleaned-narrow : (s : Sheet) (t : List ℕ) → 2432 ≤ length t → cleaned 64 s (tableAt false 0 t) ≡ cleaned 64 s t
+pub cleaned-rows : (wide : Bool) (s : Sheet) (t : List ℕ) → wordCount wide ≤ length t
+    → cleaned (labels wide) s (tableAt wide 0 t) ≡ cleaned (labels wide) s (rowsOf (words wide) t)
 unfolding cleaned
-cleaned-narrow s t h =
-    ap (λ (x : Table). 0 ∷ masked (declaredWord 64 s) (drop 1 x))
-    (ap (λ (x : Table). take 2432 x) (narrow-table t h) ∙ take-take 2432 2432 t (omega arith))
+cleaned-rows wide s t h =
+    ap (λ (x : Table). 0 ∷ masked (declaredWord (labels wide) s) (drop 1 x))
+    (take-all (rowCount (labels wide)) (tableAt wide 0 t) (rw (table-length wide 0 t) (omega arith)) ∙ sym (table-rows wide t h))

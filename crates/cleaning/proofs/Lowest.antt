@@ -14,8 +14,7 @@ use Rattle.words.specs.Words.{bit, difference}
 use Rattle.words.proofs.Laws.{bit-difference, bit-small, bit-zero, lowest}
 use Rattle.rows.specs.Edition.{labels, words}
 use Rattle.rows.specs.Row.{rowCount}
-use Rattle.rows.specs.Run.{number}
-use Rattle.sets.proofs.Numbers as numbers
+use Rattle.rows.specs.Run.{Words, number}
 use Rattle.rules.specs.Table.{Has}
 use Rattle.lent.specs.Table.{wordCount, tableAt, place}
 use Rattle.uses.proofs.Rows.{row-is}
@@ -61,7 +60,7 @@ module _ {x y : ℕ} {b : Bool} (wide : Bool) (t : List ℕ) (o r : ℕ) (e : o 
           rw (p, ← first) (no-more y x l none held)
       go (no d) = below q l (omega (arith, d)) g
 
-  pub grown-here : numbers.Small t → not b ≡ true → SameBelow wide t r → Grown wide t r
+  pub grown-here : Words t → not b ≡ true → SameBelow wide t r → Grown wide t r
   grown-here small s below =
       let hx : x < 2 ^ labels wide = rw first (table-small wide 0 t small r) in
       let hy : y < 2 ^ labels wide = rw second (table-small wide (wordCount wide) t small r) in

@@ -18,7 +18,7 @@ use Rattle.rules.specs.Rule.{chosen}
 use Rattle.rules.proofs.Labels.{chosen-passes, passes-chosen}
 use Rattle.program.specs.Program.{Program, inClass, namesOf}
 use Rattle.rows.specs.Run.{number}
-use Rattle.sets.proofs.Numbers.{number-same}
+use Rattle.rows.proofs.Run.{number-same}
 use Rattle.lent.specs.Table.{place}
 use Rattle.lent.specs.Stored.{Stored}
 use Rattle.host.specs.Lays.{functionsIn, builtInsIn, namesIn, Lays}

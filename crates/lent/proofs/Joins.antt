@@ -14,11 +14,12 @@ use lib.Seq.{set-getD}
 use Rattle.words.specs.Words.{bit, union, difference}
 use Rattle.words.proofs.Laws.{bit-small, bit-zero, bit-difference, union-same, lowest}
 use Rattle.rows.specs.Run.{number, view}
+use Rattle.rows.proofs.Run.{view-length, view-row}
 use Rattle.rules.specs.Table.{Has}
 use Rattle.rules.specs.Round.{join}
 use Rattle.rules.proofs.Join.{join-is, join-zero, join-tells}
 use Rattle.lent.specs.Stored.{Stored, Joined}
-use Rattle.lent.proofs.Views.{view-length, view-row, view-stored}
+use Rattle.lent.proofs.Views.{view-stored}
 
 -- ---- what the code does
 

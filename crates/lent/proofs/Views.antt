@@ -12,33 +12,14 @@ use lib.ListN.{length, getD, set, length-set}
 use lib.Seq.{ext-getD, getD-set-same, getD-set-other}
 use Rattle.rows.specs.Run.{number, view}
 use Rattle.rows.specs.Edition.{words}
-use Rattle.sets.proofs.Numbers.{number-same}
+use Rattle.rows.proofs.Run.{number-same, view-length, view-row}
 use Rattle.lent.specs.Table.{place}
 use Rattle.lent.specs.Stored.{Stored}
-
-pub view-length : (k n o : ℕ) (t : List ℕ) → length (view k n o t) ≡ n
-unfolding view
-view-length k zero o t = refl
-view-length k (suc n) o t = ap suc (view-length k n (o + k) t)
-
-pub view-row : (k n o : ℕ) (t : List ℕ) (r : ℕ) → r < n → getD (view k n o t) r 0 ≡ number k t (o + k * r)
-unfolding view
-view-row k zero o t r h = absurd (omega arith)
-view-row k (suc n) o t zero h = ap (λ (i : ℕ). number k t i) (omega arith)
-view-row k (suc n) o t (suc r) h = view-row k n (o + k) t r (omega arith) ∙ ap (λ (i : ℕ). number k t i) (omega arith)
 
 -- rows do not overlap
 rows-apart : (k q r : ℕ) → q < r → k * q + k ≤ k * r
 rows-apart zero q r h = omega arith
 rows-apart (suc k) q r h = omega (arith, rows-apart k q r h)
-
--- tables with the same words are the same
-pub view-same : (k n o : ℕ) (t u : List ℕ) → ((i : ℕ) → o ≤ i → i < o + k * n → getD u i 0 ≡ getD t i 0) → view k n o u ≡ view k n o t
-unfolding view
-view-same k zero o t u h = refl
-view-same k (suc n) o t u h =
-    ap₂ _∷_ (number-same k u t o o (λ m q. h (o + m) (omega arith) (omega arith)))
-    (view-same k n (o + k) t u (λ i a b. h i (omega arith) (omega arith)))
 
 -- ---- a store
 

@@ -1,136 +1,168 @@
--- The verdict's outcome and table, case by case as the operation meets them. Assumes nothing.
-use mathlib.Core.Path.{_≡_, refl, sym, ap, ap₂, _∙_}
-use mathlib.Core.Bool.{false}
+-- The outcomes of verdict and check and the words that the verdict leaves, case by case as the operations meet them, in either edition. Assumes nothing.
+use mathlib.Core.Path.{_≡_, refl, sym, ap, ap₂, subst, _∙_}
+use mathlib.Core.Bool.{Bool, true, false}
 use mathlib.Core.List.{List, _++_}
-use Prim.Native.Nat.{ℕ, _≤_, _<_}
+use Prim.Native.Nat.{ℕ, _*_, _≤_, _<_}
 use native.Mathlib.Omega.{arith}
-use lib.ListN.{length, getD, drop, List·getD-append}
+use lib.ListN.{length, getD, take, drop}
 use lib.Bits.{bitAnd}
 use lib.Count.{trailingZeros}
-use borrow.Author.Tests.{le-ltb, lt-ltb, eq-eqb, ne-eqb}
+use lib.Dec.{eqb}
+use borrow.Author.Tests.{le-ltb, lt-ltb, eq-eqb, ne-eqb, eqb-false}
+use Rattle.rows.specs.Edition.{labels, words}
+use Rattle.rows.specs.Row.{rowCount}
+use Rattle.rows.specs.Run.{Words, roomFor, rowsOf, laid}
+use Rattle.rows.proofs.Run.{view-length, room-enough, laid-rows}
 use Rattle.rules.specs.Table.{Table, facts}
 use Rattle.rules.specs.Gap.{gap}
-use Rattle.rules.proofs.Beyond.{facts-append}
 use Rattle.analysis.specs.Rules.{rules}
 use Rattle.format.specs.Reading.{readFile, Readable}
 use Rattle.program.specs.Program.{programOf}
 use Rattle.analysis.specs.Verdict.{leastTable, heldForbidden}
-use Rattle.analysis.proofs.Proper.{readable-proper}
-use Rattle.analysis.proofs.Least.{table-length}
 use Rattle.answer.specs.Outcome.{accepted, refused, holds}
-use Rattle.verdicts.specs.Verdict.{verdictOutcome, verdictTable, judged, forbiddenHeld, programIn}
+use Rattle.verdicts.specs.Verdict.{verdictOutcome, verdictTable, verdictWords, judged, forbiddenHeld, programIn}
 use Rattle.verdicts.specs.Check.{cleaned, checked, checkOutcome}
 use Rattle.verdicts.proofs.Accept.{admitted-readable}
 use Rattle.verdicts.proofs.Demand.{verdict-judged, table-left}
-use Rattle.sets.specs.Value.{value, wordsOf}
-use Rattle.sets.specs.declared.Set.{Set}
-use Rattle.lent.specs.Table.{tableAt}
-use Rattle.whole.proofs.Narrow.{number-one, narrow-whole, narrow-word, narrow-facts}
+use Rattle.verdicts.proofs.Words.{short-left, unread-left, words-same}
+use Rattle.lent.specs.Table.{wordCount, tableAt}
+use Rattle.whole.proofs.Rows.{same-room, rows-left, rest-left, some-words, short-rows, full-rows, bag-row}
+use Rattle.cleaning.proofs.Copies.{cleaned-rows}
 use Rattle.passes.specs.Order.{guestThree}
 use Rattle.solver.specs.Solved.{Solved}
 use Rattle.pezvoran.specs.Judgment.{judgment}
 
--- ---- the edition of 64 labels in words
+-- ---- a set that is held
 
--- a set is its first word
-small-value : (s : Set) → value false s ≡ s .a
-unfolding value
-small-value s = number-one (wordsOf s) 0
+pub some-held : {b : Bool} {n : ℕ} → b ≡ eqb n 0 → b ≡ false → 0 < n
+some-held {b} {n} e f = let z = eqb-false n 0 (sym e ∙ f) in omega (arith, z)
 
--- the forbidden labels that the guest holds, w all that are forbidden
-pub small-held : (u : List ℕ) (s f : Set) (w : ℕ) → value false s ≡ bitAnd (getD (tableAt false 0 u) 1 0) (value false f) → value false f ≡ w
-    → s .a ≡ heldForbidden u (guestThree w)
+pub not-none : {b : Bool} {n w : ℕ} → b ≡ eqb n 0 → b ≡ false → n ≡ w → w ≡ 0 → ⊥
+not-none {b} {n} e f same z = eqb-false n 0 (sym e ∙ f) (same ∙ z)
+
+-- the labels in the guest's row of the words u that are in w
+pub held-in : {v f w : ℕ} (wide : Bool) (u : List ℕ) → v ≡ bitAnd (getD (tableAt wide 0 u) 1 0) f → f ≡ w
+    → v ≡ heldForbidden (tableAt wide 0 u) (guestThree w)
 unfolding heldForbidden
-small-held u s f w e is = sym (small-value s) ∙ e ∙ ap₂ bitAnd (narrow-word u 1 (omega arith)) is
+held-in wide u e same = e ∙ ap (bitAnd (getD (tableAt wide 0 u) 1 0)) same
 
-pub small-facts : (u : List ℕ) (n : ℕ) → 2432 ≤ length u → n ≡ facts 64 (tableAt false 0 u) → n ≡ facts 64 u
-small-facts u n h e = e ∙ narrow-facts u h
+-- ---- the editions
 
--- the least table, and the words beyond it as they were
-pub small-solved : (xs t u : List ℕ) → 2432 ≤ length t → Solved false xs t u → u ≡ leastTable 64 (programIn 64 xs) ++ drop 2432 t
-small-solved xs t u h solved = narrow-whole t u (leastTable 64 (programIn 64 xs)) h (solved .same-length) (solved .least) (solved .beyond)
+five-labels : (wide : Bool) → 5 ≤ labels wide
+five-labels true = omega arith
+five-labels false = omega arith
 
--- ---- the verdict
+enough-words : (wide : Bool) → labels wide ≤ 64 * words wide
+enough-words true = omega arith
+enough-words false = omega arith
 
-module _ (xs : List ℕ) (t : Table) where
-  pub short-outcome : length t < 2432 → verdictOutcome 64 (length t) xs ≡ refused 8 0
+module _ (wide : Bool) (xs t : List ℕ) where
+  abbrev L : ℕ
+  L = labels wide
+
+  abbrev k : ℕ
+  k = words wide
+
+  -- the rows that are lent
+  abbrev lent : Table
+  lent = rowsOf k t
+
+  -- what the guest may not hold
+  abbrev forbidden : ℕ
+  forbidden = readFile L xs .sheet .forbidden
+
+  room-is : roomFor k t ≡ length lent
+  room-is = sym (view-length k (roomFor k t) 0 t)
+
+  -- ---- the verdict
+
+  pub short-outcome : length t < wordCount wide → verdictOutcome L (roomFor k t) xs ≡ refused 8 0
   unfolding verdictOutcome
-  short-outcome h = rw (lt-ltb _ _ h)
+  short-outcome h = let q : roomFor k t < rowCount L = rw room-is (short-rows wide t h) in rw (lt-ltb _ _ q)
 
-  pub short-table : length t < 2432 → verdictTable 64 xs t ≡ t
-  unfolding verdictTable
-  short-table h = rw (lt-ltb _ _ h)
+  pub short-words : Words t → length t < wordCount wide → verdictWords k L xs t ≡ t
+  short-words s h =
+      words-same k L (some-words wide) (enough-words wide) (five-labels wide) xs t s (short-left L (five-labels wide) xs lent (short-rows wide t h))
 
-  module _ (full : 2432 ≤ length t) where
-    pub refused-outcome : (readFile 64 xs .refusal ≡ 0 → ⊥) → verdictOutcome 64 (length t) xs ≡ refused (readFile 64 xs .refusal) (readFile 64 xs .position)
+  module _ (full : wordCount wide ≤ length t) where
+    enough : rowCount L ≤ roomFor k t
+    enough = rw room-is (full-rows wide t full)
+
+    pub refused-outcome : (readFile L xs .refusal ≡ 0 → ⊥) → verdictOutcome L (roomFor k t) xs ≡ refused (readFile L xs .refusal) (readFile L xs .position)
     unfolding verdictOutcome
-    refused-outcome z = rw (le-ltb _ _ full, ne-eqb _ _ z)
+    refused-outcome z = rw (le-ltb _ _ enough, ne-eqb _ _ z)
 
-    pub refused-table : (readFile 64 xs .refusal ≡ 0 → ⊥) → verdictTable 64 xs t ≡ t
-    unfolding verdictTable
-    refused-table z = rw (le-ltb _ _ full, ne-eqb _ _ z)
+    pub refused-words : Words t → (readFile L xs .refusal ≡ 0 → ⊥) → verdictWords k L xs t ≡ t
+    refused-words s z =
+        words-same k L (some-words wide) (enough-words wide) (five-labels wide) xs t s
+        (unread-left L (five-labels wide) xs lent (full-rows wide t full) z)
 
-    module _ (ok : Readable 64 xs) where
-      five : 5 ≤ 64
-      five = omega arith
-
-      pub left : verdictTable 64 xs t ≡ leastTable 64 (programIn 64 xs) ++ drop 2432 t
-      left = table-left 64 xs five ok t full
-
-      long : length (leastTable 64 (programIn 64 xs)) ≡ 2432
-      long = table-length 64 (programIn 64 xs) (readable-proper 64 xs five ok)
-
-      judged-is : judged 64 (programIn 64 xs)
-          ≡ judgment (heldForbidden (leastTable 64 (programIn 64 xs)) (guestThree (readFile 64 xs .sheet .forbidden))) (facts 64 (leastTable 64 (programIn 64 xs)))
+    module _ (ok : Readable L xs) where
+      judged-is : judged L (programIn L xs)
+          ≡ judgment L (heldForbidden (leastTable L (programIn L xs)) (guestThree forbidden)) (facts L (leastTable L (programIn L xs)))
       unfolding judged forbiddenHeld programOf
       judged-is = refl
 
-      held-left : heldForbidden (leastTable 64 (programIn 64 xs) ++ drop 2432 t) (guestThree (readFile 64 xs .sheet .forbidden))
-          ≡ heldForbidden (leastTable 64 (programIn 64 xs)) (guestThree (readFile 64 xs .sheet .forbidden))
-      unfolding heldForbidden
-      held-left =
-          ap (λ (w : ℕ). bitAnd w (readFile 64 xs .sheet .forbidden))
-          (List·getD-append (leastTable 64 (programIn 64 xs)) (drop 2432 t) 0 1 (omega (arith, long)))
+      -- what is held and counted in the table that became the least one
+      pub judged-outcome : (x : Table) → x ≡ leastTable L (programIn L xs)
+          → verdictOutcome L (roomFor k t) xs ≡ judgment L (heldForbidden x (guestThree forbidden)) (facts L x)
+      judged-outcome x e = rw e (verdict-judged L xs (five-labels wide) ok (roomFor k t) enough ∙ judged-is)
 
-      -- what is held and counted in the table that is left
-      pub judged-outcome : verdictOutcome 64 (length t) xs
-          ≡ judgment
-          (heldForbidden (leastTable 64 (programIn 64 xs) ++ drop 2432 t) (guestThree (readFile 64 xs .sheet .forbidden)))
-          (facts 64 (leastTable 64 (programIn 64 xs) ++ drop 2432 t))
-      judged-outcome =
-          rw (held-left, facts-append 64 (leastTable 64 (programIn 64 xs)) (drop 2432 t) (omega (arith, long)))
-          (verdict-judged 64 xs five ok (length t) full ∙ judged-is)
+      -- the words that the solver leaves
+      pub left-words : (u : List ℕ) → Words u → Solved wide xs t u → u ≡ verdictWords k L xs t
+      unfolding verdictWords
+      left-words u s solved =
+          sym (laid-rows k u s)
+          ∙ ap₂ (λ (x y : List ℕ). laid k x ++ y)
+          (rows-left k (rowCount L) t enough u (leastTable L (programIn L xs)) (solved .same-length) (solved .least) (solved .beyond)
+          ∙ sym (table-left L xs (five-labels wide) ok lent (full-rows wide t full)))
+          (ap (λ (n : ℕ). drop (k * n) u)
+          (same-room k (rowCount L) t enough u (leastTable L (programIn L xs)) (solved .same-length) (solved .least) (solved .beyond))
+          ∙ rest-left k (rowCount L) t enough u (leastTable L (programIn L xs)) (solved .same-length) (solved .least) (solved .beyond))
 
--- ---- the check
+  -- ---- the check
 
-module _ (xs : List ℕ) (t : Table) where
-  pub check-short : length t < 2432 → checkOutcome 64 xs t ≡ refused 8 0
+  pub check-short : length t < wordCount wide → checkOutcome L xs lent ≡ refused 8 0
   unfolding checkOutcome
-  check-short h = rw (lt-ltb _ _ h)
+  check-short h = rw (lt-ltb _ _ (short-rows wide t h))
 
-  module _ (full : 2432 ≤ length t) where
-    pub check-refused : (readFile 64 xs .refusal ≡ 0 → ⊥) → checkOutcome 64 xs t ≡ refused (readFile 64 xs .refusal) (readFile 64 xs .position)
+  module _ (full : wordCount wide ≤ length t) where
+    pub check-refused : (readFile L xs .refusal ≡ 0 → ⊥) → checkOutcome L xs lent ≡ refused (readFile L xs .refusal) (readFile L xs .position)
     unfolding checkOutcome
-    check-refused z = rw (le-ltb _ _ full, ne-eqb _ _ z)
+    check-refused z = rw (le-ltb _ _ (full-rows wide t full), ne-eqb _ _ z)
 
-    module _ (ok : Readable 64 xs) where
-      check-read : checkOutcome 64 xs t ≡ checked 64 (programIn 64 xs) t
+    -- the lowest row that lacks something, in the lent rows, is that of their table
+    abbrev lowestGap : Table → ℕ
+    lowestGap x = gap L (cleaned L (readFile L xs .sheet) x) (rules L (programOf (readFile L xs)))
+
+    gap-is : lowestGap (tableAt wide 0 t) ≡ lowestGap lent
+    gap-is = ap (λ (x : Table). gap L x (rules L (programOf (readFile L xs)))) (cleaned-rows wide (readFile L xs .sheet) t full)
+
+    module _ (ok : Readable L xs) where
+      check-read : checkOutcome L xs lent ≡ checked L (programIn L xs) lent
       unfolding checkOutcome
-      check-read = admitted-readable 64 (length t) (readFile 64 xs) refused (checked 64 (programIn 64 xs) t) full ok
+      check-read = admitted-readable L (length lent) (readFile L xs) refused (checked L (programIn L xs) lent) (full-rows wide t full) ok
 
-      abbrev pub lowestGap : ℕ
-      lowestGap = gap 64 (cleaned 64 (readFile 64 xs .sheet) t) (rules 64 (programOf (readFile 64 xs)))
-
-      pub check-gap : lowestGap < 2432 → checkOutcome 64 xs t ≡ refused 10 lowestGap
+      pub check-gap : lowestGap (tableAt wide 0 t) < rowCount L → checkOutcome L xs lent ≡ refused 10 (lowestGap (tableAt wide 0 t))
       unfolding checked programOf
-      check-gap h = check-read ∙ rw (lt-ltb _ _ h)
+      check-gap h = let q : lowestGap lent < rowCount L = rw (← gap-is) h in check-read ∙ rw (lt-ltb _ _ q) (ap (refused 10) (sym gap-is))
 
-      module _ (none : 2432 ≤ lowestGap) where
-        pub check-clear : heldForbidden t (guestThree (readFile 64 xs .sheet .forbidden)) ≡ 0 → checkOutcome 64 xs t ≡ accepted 0
-        unfolding checked programOf forbiddenHeld
-        check-clear e = check-read ∙ rw (le-ltb _ _ none, eq-eqb _ _ e)
+      module _ (none : rowCount L ≤ lowestGap (tableAt wide 0 t)) where
+        last : rowCount L ≤ lowestGap lent
+        last = rw (← gap-is) none
 
-        pub check-held : (heldForbidden t (guestThree (readFile 64 xs .sheet .forbidden)) ≡ 0 → ⊥)
-            → checkOutcome 64 xs t ≡ holds (trailingZeros 64 (heldForbidden t (guestThree (readFile 64 xs .sheet .forbidden)))) 3
+        -- the guest's row is in the table
+        held-is : heldForbidden (tableAt wide 0 t) (guestThree forbidden) ≡ heldForbidden lent (guestThree forbidden)
+        unfolding heldForbidden
+        held-is = ap (λ (x : ℕ). bitAnd x forbidden) (bag-row wide t full)
+
+        pub check-clear : heldForbidden (tableAt wide 0 t) (guestThree forbidden) ≡ 0 → checkOutcome L xs lent ≡ accepted 0
         unfolding checked programOf forbiddenHeld
-        check-held e = check-read ∙ rw (le-ltb _ _ none, ne-eqb _ _ e)
+        check-clear e = check-read ∙ rw (le-ltb _ _ last, eq-eqb _ _ (sym held-is ∙ e))
+
+        pub check-held : (heldForbidden (tableAt wide 0 t) (guestThree forbidden) ≡ 0 → ⊥)
+            → checkOutcome L xs lent ≡ holds (trailingZeros L (heldForbidden (tableAt wide 0 t) (guestThree forbidden))) 3
+        unfolding checked programOf forbiddenHeld
+        check-held e =
+            check-read ∙ rw (le-ltb _ _ last, ne-eqb _ _ (λ z. e (held-is ∙ z)))
+            (ap (λ (w : ℕ). holds (trailingZeros L w) 3) (sym held-is))

@@ -5,6 +5,6 @@ use lib.Count.{trailingZeros}
 use lib.Dec.{eqb}
 use Rattle.answer.specs.Outcome.{Outcome, confined, leaks}
 
--- "leaks if S(1) holds a forbidden label", with the lowest of them and the guest's label, 3
-abbrev pub judgment : ℕ → ℕ → Outcome
-judgment held count = cond (eqb held 0) (confined count) (leaks (trailingZeros 64 held) 3 count)
+-- "leaks if S(1) holds a forbidden label", with the lowest of them and the guest's label, 3; L is the number of labels
+abbrev pub judgment : ℕ → ℕ → ℕ → Outcome
+judgment L held count = cond (eqb held 0) (confined count) (leaks (trailingZeros L held) 3 count)

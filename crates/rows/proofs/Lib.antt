@@ -1,3 +1,4 @@
 -- Laws of row numbers. Assumes nothing.
 pub mod Number
 pub mod Edition
+pub mod Run

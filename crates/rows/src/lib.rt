@@ -72,6 +72,11 @@ pub fn row_count(wide: bool) -> usize
     VARIABLES + (NAMES + 2) * labels(wide)
 }
 
+// The words of a table in the edition of 64 labels and in that of 256, for arrays, whose lengths are constants.
+pub const TABLE_WORDS: usize = 2432;
+
+pub const LARGE_TABLE_WORDS: usize = 35840;
+
 // How many words a table has.
 pub fn word_count(wide: bool) -> usize
     ensures { λ r. ⌜ r ≡ words wide * rowCount (labels wide) ⌝ }

@@ -12,17 +12,18 @@ use lib.ListN.{getD}
 use lib.Pow.{pow-add, pow-pos}
 use Rattle.words.specs.Words.{bit, countBelow, Taken}
 use Rattle.words.proofs.Laws.{bit-low, bit-half}
-use Rattle.rows.specs.Run.{number}
+use Rattle.rows.specs.Run.{Words, number}
+use Rattle.rows.proofs.Run.{number-lt}
 use Rattle.rows.specs.Edition.{words, labels}
 use Rattle.sets.specs.Value.{wordsOf, value}
 use Rattle.sets.specs.declared.Set.{Set}
-use Rattle.sets.proofs.Numbers.{Small, Bitwise, number-of, number-lt, number-bit, number-count, count-none, taken-here, taken-later}
+use Rattle.sets.proofs.Numbers.{Bitwise, number-of, number-bit, number-count, count-none, taken-here, taken-later}
 
 -- the words of a set are words
 abbrev pub Good : Set → Type 0
 Good s = (s .a < 2 ^ 64) × (s .b < 2 ^ 64) × (s .c < 2 ^ 64) × (s .d < 2 ^ 64)
 
-pub good-small : {s : Set} → Good s → Small (wordsOf s)
+pub good-small : {s : Set} → Good s → Words (wordsOf s)
 good-small g zero = g .0
 good-small g (suc zero) = g .1
 good-small g (suc (suc zero)) = g .2
@@ -52,6 +53,13 @@ value-of {f} o b x y r is gx gy e =
 pub value-lt : (wide : Bool) (x : Set) → Good x → value wide x < 2 ^ (64 * words wide)
 unfolding value
 value-lt wide x g = number-lt (words wide) (wordsOf x) 0 (good-small g)
+
+word-labels : (wide : Bool) → 64 * words wide ≡ labels wide
+word-labels true = refl
+word-labels false = refl
+
+pub value-below : (wide : Bool) (x : Set) → Good x → value wide x < 2 ^ labels wide
+value-below wide x g = rw (← word-labels wide) (value-lt wide x g)
 
 -- ---- no label
 

@@ -3,6 +3,7 @@
 ghost use mathlib.Core.Path.{_≡_};
 ghost use Prim.Native.Nat.{ℕ, _*_, _^_, _<_, _≤_};
 ghost use lib.Bits.{bitAnd};
+ghost use lib.Count.{trailingZeros};
 ghost use lib.Dec.{eqb};
 ghost use Rattle.words.specs.Words.{bit, union, difference, countBelow, Taken};
 ghost use Rattle.rows.specs.Edition.{words, labels};
@@ -242,6 +243,15 @@ pub fn next(wide: bool, x: Set) -> Split
             d: n.rest,
         },
     }
+}
+
+// The lowest label of a set.
+pub fn lowest(wide: bool, x: Set) -> Label
+    requires { ⌜ 0 < value wide x ⌝ }
+    ensures { λ r. ⌜ r .0 ≡ trailingZeros (labels wide) (value wide x) ⌝ }
+{
+    let n = next(wide, x);
+    n.label
 }
 
 // Every label.

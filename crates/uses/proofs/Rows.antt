@@ -12,7 +12,7 @@ use Rattle.rows.specs.Row.{rowCount}
 use Rattle.rows.specs.Run.{number}
 use Rattle.lent.specs.Table.{wordCount, tableAt, place}
 use Rattle.lent.specs.Stored.{Joined}
-use Rattle.lent.proofs.Views.{view-row}
+use Rattle.rows.proofs.Run.{view-row}
 use Rattle.uses.specs.Use.{Lent, giving, including, Used}
 use Rattle.uses.proofs.Use.{used-join}
 

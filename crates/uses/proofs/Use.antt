@@ -19,7 +19,7 @@ use Rattle.rules.proofs.Join.{join-keeps, join-tells, has-join}
 use Rattle.rules.proofs.Told.{told-monotone, told-within, told-closed}
 use Rattle.lent.specs.Table.{wordCount, tableAt}
 use Rattle.lent.specs.Stored.{Joined}
-use Rattle.lent.proofs.Views.{view-length, view-same}
+use Rattle.rows.proofs.Run.{view-length, view-same}
 use Rattle.uses.specs.Use.{Apart, tableOf, Since, tells, Reached, start, adds, Says, Used}
 
 -- ---- one step, in the terms of tables

@@ -6,3 +6,4 @@ pub mod Lists
 pub mod Demand
 pub mod Left
 pub mod Ranged
+pub mod Words

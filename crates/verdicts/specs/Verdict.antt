@@ -3,11 +3,12 @@
 use mathlib.Core.Path.{_≡_}
 use mathlib.Core.List.{List, [], _∷_, _++_}
 use mathlib.Core.Bool.{cond}
-use Prim.Native.Nat.{ℕ, _≤_}
+use Prim.Native.Nat.{ℕ, _*_, _≤_}
 use lib.ListN.{length, drop}
 use lib.Dec.{eqb, ltb}
 use lib.Count.{trailingZeros}
 use Rattle.rows.specs.Row.{rowCount}
+use Rattle.rows.specs.Run.{roomFor, rowsOf, laid}
 use Rattle.answer.specs.Outcome.{Outcome, confined, leaks, refused}
 use Rattle.rules.specs.Table.{Table, facts}
 use Rattle.format.specs.Reading.{Reading, readFile}
@@ -59,6 +60,11 @@ verdictTable L xs t =
     let d = readFile L xs in
     let u = leastTable L (programOf d) ++ drop (rowCount L) t in
     admitted L (length t) d (λ n at. t) u
+
+-- the same in the words that a caller lends, k to a row: the rows of that table, and behind the last whole row what stood there
+unfoldable pub verdictWords : ℕ → ℕ → List ℕ → List ℕ → List ℕ
+unfolding verdictTable laid
+verdictWords k L xs t = laid k (verdictTable L xs (rowsOf k t)) ++ drop (k * roomFor k t) t
 
 -- the outcome is leaks; it is confined; it is a refusal with a number from 1 to `most`
 abbrev pub Leaks : Outcome → Type 0

@@ -3,4 +3,4 @@ pub mod Tables
 pub mod Finished
 pub mod Solving
 pub mod Counted
-pub mod Narrow
+pub mod Rows

@@ -11,10 +11,9 @@ use lib.Pow.{pow-pos}
 use Rattle.rows.specs.Edition.{labels, words}
 use Rattle.rows.specs.Row.{rowCount}
 use Rattle.rules.specs.Table.{Small, Shaped}
-use Rattle.rows.specs.Run.{number, view}
-use Rattle.sets.proofs.Numbers as numbers
+use Rattle.rows.specs.Run.{Words, number, view}
 use Rattle.lent.specs.Table.{wordCount, tableAt}
-use Rattle.lent.proofs.Views.{view-length, view-row}
+use Rattle.rows.proofs.Run.{number-lt, view-length, view-row}
 use Rattle.whole.specs.Cleared.{Cleared}
 
 -- ---- rows are sets of labels
@@ -29,12 +28,12 @@ word-labels : (wide : Bool) → 64 * words wide ≡ labels wide
 word-labels true = refl
 word-labels false = refl
 
-pub table-small : (wide : Bool) (o : ℕ) (t : List ℕ) → numbers.Small t → Small (labels wide) (tableAt wide o t)
+pub table-small : (wide : Bool) (o : ℕ) (t : List ℕ) → Words t → Small (labels wide) (tableAt wide o t)
 table-small wide o t s r = go (decLt r (rowCount (labels wide)))
   where
     go : Dec (r < rowCount (labels wide)) → getD (tableAt wide o t) r 0 < 2 ^ labels wide
     go (yes i) =
-        rw (view-row (words wide) (rowCount (labels wide)) o t r i, ← word-labels wide) (numbers.number-lt (words wide) t (o + words wide * r) s)
+        rw (view-row (words wide) (rowCount (labels wide)) o t r i, ← word-labels wide) (number-lt (words wide) t (o + words wide * r) s)
     go (no d) = rw (table-past wide o t r (omega (arith, d))) (pow-pos (labels wide))
 
 pub table-shaped : (wide : Bool) (o : ℕ) (t : List ℕ) → Small (labels wide) (tableAt wide o t) → Shaped (labels wide) (tableAt wide o t)

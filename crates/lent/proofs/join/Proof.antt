@@ -4,7 +4,7 @@ use Prim.Native.Nat.{_+_, _*_}
 use Rattle.rows.specs.Run.{number}
 use Rattle.rows.specs.Edition.{words}
 use Rattle.sets.specs.Value.{value}
-use Rattle.sets.proofs.Numbers.{number-lt}
+use Rattle.rows.proofs.Run.{number-lt}
 use Rattle.lent.proofs.Joins.{joined-nowhere, joined-held, joined-more, lacks-nothing, lacks-some}
 use Rattle.lent.proofs.join.Statement.{statement}
 use Rattle.lent.proofs.join.Tie as tie
