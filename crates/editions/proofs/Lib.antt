@@ -1,0 +1,3 @@
+pub mod Widened
+pub mod Read
+pub mod Ruled
