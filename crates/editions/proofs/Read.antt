@@ -1,18 +1,17 @@
 -- A file that is readable with L labels is readable with n more, and the same is read of it: the same records, and the sheet widened.
 -- Assumes nothing.
 use mathlib.Core.Path.{_≡_, refl, sym, ap, _∙_, subst}
-use mathlib.Core.List.{List, [], _∷_, _++_}
-use mathlib.Core.Bool.{Bool, true, false, not, cond, _&&_, _||_}
-use Prim.Native.Nat.{ℕ, _+_, _≤_, _<_}
+use mathlib.Core.List.{List, [], _∷_}
+use mathlib.Core.Bool.{true}
+use Prim.Native.Nat.{ℕ, _+_, _≤_}
 use native.Mathlib.Omega.{arith}
-use lib.ListN.{getD, replicate}
-use lib.Dec.{eqb, leb, ltb}
+use lib.Dec.{leb, ltb}
 use borrow.Author.Tests.{ltb-true, lt-ltb}
 use Rattle.layout.specs.Layout.{Class, name, mask, newLabel, type, flag, anyLabel, hostLabel, functionLabel, plainLabel, dataLabel, scope, newVariable, variable, declaredVariable, globalVariable, variableName, key, fieldsOf}
-use Rattle.format.specs.Sheet.{Sheet, typeOf, start, known, declared}
+use Rattle.format.specs.Sheet.{Sheet, typeOf, start}
 use Rattle.format.specs.Fields.{good, Fits}
 use Rattle.format.specs.Records.{Record, field, WellFormed, twice, after}
-use Rattle.format.specs.Reading.{sheetAfter, AllWellFormed, Missing, Concatenation, Readable, readFile}
+use Rattle.format.specs.Reading.{sheetAfter, AllWellFormed, Concatenation, Readable, readFile}
 use Rattle.format.proofs.Tests.{and-map}
 use Rattle.format.proofs.Arrays.{padded}
 use Rattle.format.proofs.Later.{Sized, record-extends}
@@ -80,22 +79,25 @@ all-widened L n s z (r ∷ rs) w =
     )
 
 module _ (L n : ℕ) (five : 5 ≤ L) (xs : List ℕ) where
-  sheets : (c : Concatenation L xs) → sheetAfter (start (L + n)) (c .records) ≡ widened n (sheetAfter (start L) (c .records))
-  sheets c = ap (λ (t : Sheet). sheetAfter t (c .records)) (start-widened L n five) ∙ all-widened L n (start L) (start-sized L five) (c .records) (c .well-formed) .1
+  all-from-start : (rs : List Record) → AllWellFormed L (start L) rs
+      → AllWellFormed (L + n) (start (L + n)) rs × (sheetAfter (start (L + n)) rs ≡ widened n (sheetAfter (start L) rs))
+  all-from-start rs w =
+      subst (λ (t : Sheet). AllWellFormed (L + n) t rs × (sheetAfter t rs ≡ widened n (sheetAfter (start L) rs))) (sym (start-widened L n five))
+      (all-widened L n (start L) (start-sized L five) rs w)
 
   concatenation-widened : Concatenation L xs → Concatenation (L + n) xs
   concatenation-widened c =
+      let all = all-from-start (c .records) (c .well-formed) in
       record {
         records = c .records;
         bytes = c .bytes;
         not-too-long = c .not-too-long;
-        well-formed =
-            subst (λ (t : Sheet). AllWellFormed (L + n) t (c .records)) (sym (start-widened L n five))
-            (all-widened L n (start L) (start-sized L five) (c .records) (c .well-formed) .0);
+        well-formed = all .0;
         none-missing = λ l m. c .none-missing l
             (record {
               from-five = m .from-five;
-              is-function = sym (type-widened L n (sheetAfter (start L) (c .records)) l) ∙ sym (ap (λ (t : Sheet). typeOf t l) (sheets c)) ∙ m .is-function;
+              is-function =
+                  sym (ap (λ (t : Sheet). typeOf t l) (all .1) ∙ type-widened L n (sheetAfter (start L) (c .records)) l) ∙ m .is-function;
               no-record = m .no-record;
             });
       }
@@ -117,5 +119,5 @@ module _ (L n : ℕ) (five : 5 ≤ L) (xs : List ℕ) where
       record {
         readable = readable-iff (L + n) more xs .1 w;
         records = large .0 ∙ sym (small .0);
-        sheet = large .1 ∙ sheets c ∙ ap (widened n) (sym (small .1));
+        sheet = large .1 ∙ all-from-start (c .records) (c .well-formed) .1 ∙ ap (widened n) (sym (small .1));
       }

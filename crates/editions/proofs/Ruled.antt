@@ -1,25 +1,24 @@
 -- The rules of a program are the same with the widened sheet and n labels more: none of these labels is declared, and of all others the sheet says the
 -- same. Assumes nothing.
-use mathlib.Core.Path.{_≡_, refl, sym, ap, ap₂, fun-ext, _∙_}
-use mathlib.Core.List.{List, [], _∷_, _++_, map}
+use mathlib.Core.Path.{_≡_, refl, ap, fun-ext, _∙_}
+use mathlib.Core.List.{List, [], _∷_, map}
 use mathlib.Core.Bool.{Bool, true, false, not}
 use Prim.Native.Nat.{ℕ, zero, suc, _+_, _*_, _<_, _≤_}
-use native.Mathlib.Nat.{add-zero, add-suc}
-use native.Mathlib.Numerals.{add-one}
+use native.Mathlib.Nat.{add-zero}
 use native.Mathlib.Omega.{arith}
-use lib.ListN.{length, getD, take, drop, replicate, length-drop, List·getD-append, List·getD-eq-default}
+use lib.ListN.{length, take, drop, replicate, length-drop, List·getD-append, List·getD-eq-default}
 use lib.Seq.{take-append-le, drop-append-le}
 use lib.Dec.{eqb}
-use borrow.Author.Tests.{eq-eqb, eqb-true}
+use borrow.Author.Tests.{eqb-true}
 use Rattle.rows.specs.Row.{variable, property, chain, thrown}
-use Rattle.rules.specs.Rule.{Rule, none, give, include, each, over, _also_, when, every, chosen}
+use Rattle.rules.specs.Rule.{Rule, give, include, each, over, _also_, when, every, chosen}
 use Rattle.rules.proofs.Labels.{chosen-off}
-use Rattle.format.specs.Sheet.{Sheet, typeOf, declared, builtIn}
+use Rattle.format.specs.Sheet.{typeOf, declared}
 use Rattle.format.proofs.Arrays.{padded}
 use Rattle.format.proofs.Later.{Sized, declared-below}
 use Rattle.program.specs.Statement as say
-use Rattle.program.specs.Program.{Program, Guest, statements, namesOf, isFunction, thisOf, formalsOf, returnsOf}
-use Rattle.analysis.specs.Rules.{looking, loading, storing, passing, entering, calling, making, converting, ruleOf, parentsOf, chainRule, declaredLabels, guestChains, rulesAt, rules}
+use Rattle.program.specs.Program.{Program, statements, namesOf, isFunction, thisOf, formalsOf, returnsOf}
+use Rattle.analysis.specs.Rules.{storing, passing, entering, calling, converting, ruleOf, parentsOf, chainRule, declaredLabels, guestChains, rules}
 use Rattle.editions.proofs.Widened.{widened}
 
 -- the program with the widened sheet
@@ -39,7 +38,7 @@ when-same true x y h = h refl
 when-same false x y h = refl
 
 module _ (L n : ℕ) (p : Program) (z : Sized L (p .sheet)) where
-  -- what the widened sheet says of a function label
+  -- of a function label the widened sheet says the same
   function-below : (f : ℕ) → isFunction (p .sheet) f ≡ true → f < L
   function-below f e = declared-below L (p .sheet) f z (λ d. omega (arith, eqb-true (typeOf (p .sheet) f) 2 e))
 
@@ -64,22 +63,13 @@ module _ (L n : ℕ) (p : Program) (z : Sized L (p .sheet)) where
   functions-same a b h f =
       ap (λ (t : Bool). when t (a f)) (is-function-same f) ∙ when-same (isFunction (p .sheet) f) (a f) (b f) (λ e. h f (function-below f e))
 
-  returns-same : (f : ℕ) → returnsOf (widenedProgram n p) f ≡ returnsOf p f
-  unfolding returnsOf statements
-  returns-same f = refl
-
-  names-same : (key : ℕ) → namesOf (widened n (p .sheet)) key ≡ namesOf (p .sheet) key
-  unfolding namesOf
-  names-same key = refl
-
   -- ---- statement by statement
 
-  looking-same : (y key l : ℕ) → looking (widenedProgram n p) y key l ≡ looking p y key l
-  looking-same y key l = λ i. each (chain l) (λ m. over (names-same key i) (λ j. include (variable y) (property m j)))
-
   storing-same : (x key a : ℕ) → storing (widenedProgram n p) x key a ≡ storing p x key a
+  unfolding namesOf
   storing-same x key a = λ i.
-      each (variable x) (λ l. when (not (eqb (padded (p .sheet .flags) n 0 l i) 1)) (over (names-same key i) (λ j. include (property l j) (variable a))))
+      each (variable x) (λ l.
+      when (not (eqb (padded (p .sheet .flags) n 0 l i) 1)) (over (namesOf (p .sheet) key) (λ m. include (property l m) (variable a))))
 
   passing-same : (ys args : List ℕ) → passing (widenedProgram n p) ys args ≡ passing p ys args
   passing-same [] args = refl
@@ -87,10 +77,11 @@ module _ (L n : ℕ) (p : Program) (z : Sized L (p .sheet)) where
   passing-same (y ∷ ys) (a ∷ args) = λ i. include (variable y) (variable a) also passing-same ys args i
 
   entering-same : (k y t : ℕ) (args : List ℕ) (f : ℕ) → f < L → entering (widenedProgram n p) k y t args f ≡ entering p k y t args f
+  unfolding returnsOf statements
   entering-same k y t args f h = λ i.
       include (variable (this-same f h i)) (variable t)
       also (ap (λ (ys : List ℕ). passing (widenedProgram n p) ys args) (formals-same f h) ∙ passing-same (formalsOf (p .sheet) f) args) i
-      also over (returns-same f i) (λ x. include (variable y) (variable x))
+      also over (returnsOf p f) (λ x. include (variable y) (variable x))
       also include (thrown k) (thrown f)
 
   calling-same : (k y c t : ℕ) (args : List ℕ) → calling (widenedProgram n p) k y c t args ≡ calling p k y c t args
@@ -101,19 +92,23 @@ module _ (L n : ℕ) (p : Program) (z : Sized L (p .sheet)) where
   converting-same k x = λ i.
       each (variable x) (λ l. each (chain l) (λ m. over (1 ∷ 2 ∷ []) (λ j. each (property m j) (λ f. handed f i))))
     where
-      hands : Sheet → ℕ → Rule
-      hands s f = include (variable (thisOf s f)) (variable x) also include (thrown k) (thrown f)
+      hands : ℕ → ℕ → Rule
+      hands v f = include (variable v) (variable x) also include (thrown k) (thrown f)
 
-      handed : (f : ℕ) → when (isFunction (widened n (p .sheet)) f) (hands (widened n (p .sheet)) f) ≡ when (isFunction (p .sheet) f) (hands (p .sheet) f)
-      handed f = functions-same (hands (widened n (p .sheet))) (hands (p .sheet)) (λ f h i. include (variable (this-same f h i)) (variable x) also include (thrown k) (thrown f)) f
+      handed : (f : ℕ) → when (isFunction (widened n (p .sheet)) f) (hands (thisOf (widened n (p .sheet)) f) f)
+          ≡ when (isFunction (p .sheet) f) (hands (thisOf (p .sheet) f) f)
+      handed =
+          functions-same (λ f. hands (thisOf (widened n (p .sheet)) f) f) (λ f. hands (thisOf (p .sheet) f) f)
+          (λ f h. ap (λ (v : ℕ). hands v f) (this-same f h))
 
   rule-same : (a : say.Statement) → ruleOf (widenedProgram n p) a ≡ ruleOf p a
+  unfolding namesOf
   rule-same (say.named v m) = refl
   rule-same (say.grant v b) = refl
   rule-same (say.property l m l') = refl
   rule-same (say.held v l) = refl
   rule-same (say.copy k y x) = refl
-  rule-same (say.load k y x key w) = λ i. give (variable x) w also looking-same y key w i also each (variable x) (λ l. looking-same y key l i)
+  rule-same (say.load k y x key w) = refl
   rule-same (say.store k x key a) = storing-same x key a
   rule-same (say.make k y l) = refl
   rule-same (say.makeFunction k y l m) = refl

@@ -5,16 +5,16 @@ use mathlib.Core.List.{List, _++_, append-assoc}
 use mathlib.Core.Bool.{Bool, true, false, cond}
 use Prim.Native.Nat.{ℕ, _+_, _*_, _-_, _<_, _≤_}
 use native.Mathlib.Omega.{arith}
-use lib.ListN.{length, getD, set, take, drop, replicate, replicate-append-replicate, length-drop}
+use lib.ListN.{length, take, drop, replicate, replicate-append-replicate}
 use lib.Seq.{set-append-left, take-append-le, drop-append-le, paste}
 use lib.Dec.{eqb, leb}
 use borrow.Author.Tests.{eqb-true, ltb-true}
 use Rattle.layout.specs.Layout.{newLabel, functionLabel, fieldsOf}
-use Rattle.format.specs.Sheet.{Sheet, start, typeOf, withMask, withLabel, withForbidden, withFunction, withVariable}
+use Rattle.format.specs.Sheet.{Sheet, start, withMask, withLabel, withForbidden, withFunction, withVariable}
 use Rattle.format.specs.Fields.{good}
 use Rattle.format.specs.Records.{Record, field, WellFormed, after}
 use Rattle.format.proofs.Tests.{and-second}
-use Rattle.format.proofs.Fields.{fits-good, fits-length}
+use Rattle.format.proofs.Fields.{fits-good}
 use Rattle.format.proofs.Effect.{function-of}
 use Rattle.format.proofs.Later.{Sized, function-below}
 use Rattle.format.proofs.Ready.{startTypes, startFlags}
@@ -56,6 +56,12 @@ start-widened L n five = λ i.
 
 -- ---- one record more
 
+-- a copy into the front of a list
+paste-front : (xs ys : List ℕ) (at : ℕ) (vs : List ℕ) (k : ℕ) → at + k ≤ length xs → paste (xs ++ ys) at vs k ≡ paste xs at vs k ++ ys
+paste-front xs ys at vs k h =
+    rw (take-append-le at xs ys (omega arith), drop-append-le (at + k) xs ys h)
+    (sym (append-assoc (take at xs ++ take k vs) (drop (at + k) xs) ys))
+
 module _ (L n : ℕ) (s : Sheet) (z : Sized L s) where
   label-widened : (l t f : ℕ) → l < L → withLabel (widened n s) l t f ≡ widened n (withLabel s l t f)
   label-widened l t f h = λ i.
@@ -70,17 +76,13 @@ module _ (L n : ℕ) (s : Sheet) (z : Sized L s) where
         forbidden = s .forbidden;
       }
 
-  -- a copy into the front of a list
-  paste-widened : (xs ys : List ℕ) (at : ℕ) (vs : List ℕ) (k : ℕ) → at + k ≤ length xs → paste (xs ++ ys) at vs k ≡ paste xs at vs k ++ ys
-  paste-widened xs ys at vs k h = rw (take-append-le at xs ys (omega arith), drop-append-le (at + k) xs ys h) (sym (append-assoc (take at xs ++ take k vs) (drop (at + k) xs) ys))
-
   function-widened : (l : ℕ) (vs : List ℕ) → l < L → withFunction (widened n s) l vs ≡ widened n (withFunction s l vs)
   function-widened l vs h = λ i.
       record {
         types = s .types ++ replicate n 0;
         flags = s .flags ++ replicate n 0;
         defined = set-append-left (s .defined) (replicate n 0) l 1 (omega (arith, z .defined-length)) i;
-        formals = paste-widened (s .formals) (replicate (7 * n) 1) (7 * l) vs 7 (omega (arith, z .formals-length)) i;
+        formals = paste-front (s .formals) (replicate (7 * n) 1) (7 * l) vs 7 (omega (arith, z .formals-length)) i;
         masks = s .masks;
         owners = s .owners;
         names = s .names;
