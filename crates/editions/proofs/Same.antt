@@ -1,4 +1,5 @@
--- Two editions say the same of a file that the smaller one reads. Assumes nothing.
+-- Two editions say the same of a file that the smaller one reads: what they read differs in the length of the sheet's arrays alone, so the rules are the
+-- same, and with them the facts, their number and the verdict. Assumes nothing.
 use mathlib.Core.Path.{_≡_, refl, sym, ap, subst, _∙_}
 use mathlib.Core.List.{List, [], _∷_}
 use Prim.Native.Nat.{ℕ, _+_, _-_, _^_, _<_, _≤_}
@@ -32,6 +33,7 @@ use Rattle.editions.proofs.Ruled.{widenedProgram, rules-same}
 use Rattle.editions.proofs.Carried.{row-kept, Least, row-same, row-empty}
 use Rattle.editions.proofs.Counted.{facts-same, lowest-wide}
 
+-- the least table of a program is one in Carried.antt's sense
 least : (A : ℕ) (p : Program) → Proper A p → Least A (rules A p) (leastTable A p)
 least A p o =
     record { small = table-shaped A p o .small; closed = table-closed A p o; derived = λ r l. table-derives A p o r l .0 }
