@@ -1,14 +1,33 @@
-// A test of both operations: for each file of data/ prints the verdict, and what the check says of the table it left. The first eight are
-// document 01's listed files; the others use every kind of record. What must be printed comes from the second implementation
+// A test of the operations: for each file of data/ prints the verdict, and what the check says of the table it left, in the edition of 64 labels and then in
+// that of 256. The first eight are document 01's listed files, the next use every kind of record, the last labels above 63. What must be printed comes from the second implementation
 // (`cargo run --example report_cases` in tests/second). Of a file that cannot be read nothing is printed, and a line on standard error says why.
 use input::Got;
 use libc::STDERR_FILENO;
+use rows::LARGE_TABLE_WORDS;
+use rows::TABLE_WORDS;
 
 fn judge(file: &[u8]) -> bool {
-    let mut table = [0u64; 2432];
-    let answer = pezvoran::judge(file, &mut table);
-    let again = pezvoran::examine(file, &table);
-    report::print(answer, table[1]) && report::print(again, 0)
+    let mut table = [0u64; TABLE_WORDS];
+    desk::print_verdict(file, false, &mut table)
+        && report::print(
+            pezvoran::examine_small(file, &table),
+            false,
+            sets::none(false),
+        )
+}
+
+fn judge_large(file: &[u8]) -> bool {
+    let mut table = [0u64; LARGE_TABLE_WORDS];
+    desk::print_verdict(file, true, &mut table)
+        && report::print(
+            pezvoran::examine_large(file, &table),
+            true,
+            sets::none(true),
+        )
+}
+
+fn judge_both(file: &[u8]) -> bool {
+    judge(file) && judge_large(file)
 }
 
 fn show(name: &[u8]) {
@@ -21,7 +40,7 @@ fn show(name: &[u8]) {
     let got = input::read_all(fd, &mut file);
     match got {
         Got::Read(n) => {
-            if !judge(&file[..n]) {
+            if !judge_both(&file[..n]) {
                 os::fail(b"cases: standard output");
             }
         }
@@ -50,4 +69,6 @@ fn main() {
     show(b"every-2");
     show(b"every-3");
     show(b"every-4");
+    show(b"large-1");
+    show(b"large-2");
 }

@@ -119,7 +119,3 @@ demands L five =
       demand-2 = λ xs ok t full. demand-2-holds L five xs ok t full;
       demand-3 = demand-3-holds L five;
     }
-
--- the number of labels that the contracts of `verdict` and `check` name
-pub demands-met : Demands 64
-demands-met = demands 64 (omega arith)

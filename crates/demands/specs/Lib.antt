@@ -1,2 +1,3 @@
--- The customer's three demands, as statements.
+-- The customer's three demands, as statements, and both editions.
 pub mod Demands
+pub mod Editions

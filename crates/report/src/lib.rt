@@ -2,6 +2,8 @@
 // Each function answers whether all of it was written, and stops at the first write that fails; errno then says why.
 use answer::Answer;
 use libc::STDOUT_FILENO;
+use rows::Label;
+use sets::Set;
 
 fn print_text(text: &[u8]) -> bool {
     io::write_all(STDOUT_FILENO, text)
@@ -16,20 +18,23 @@ fn print_label(l: u64) -> bool {
 }
 
 // A set's labels, ascending, a space before each.
-fn print_labels(w: u64) -> bool {
-    for l in 0..64usize {
-        if words::has(w, l) == 1 {
+fn print_labels(wide: bool, s: Set) -> bool {
+    let n = rows::labels(wide);
+    let mut l: usize = 0;
+    while l < n {
+        if sets::has(wide, s, Label(l as u8)) == 1 {
             if !print_label(l as u64) {
                 return false;
             }
         }
+        l += 1;
     }
     true
 }
 
 // What the guest's bag may hold.
-fn print_guest(w: u64) -> bool {
-    print_text(b"\nguest") && print_labels(w) && print_text(b"\n")
+fn print_guest(wide: bool, bag: Set) -> bool {
+    print_text(b"\nguest") && print_labels(wide, bag) && print_text(b"\n")
 }
 
 fn print_refusal(number: u8, position: u64) -> bool {
@@ -41,17 +46,17 @@ fn print_refusal(number: u8, position: u64) -> bool {
 }
 
 // The answer, and for a verdict the labels in the guest's bag.
-pub fn print(a: Answer, bag: u64) -> bool {
+pub fn print(a: Answer, wide: bool, bag: Set) -> bool {
     match a {
         Answer::Confined(count) => {
-            print_text(b"confined ") && print_number(count as u64) && print_guest(bag)
+            print_text(b"confined ") && print_number(count as u64) && print_guest(wide, bag)
         }
         Answer::Leaks(label, _, count) => {
             print_text(b"leaks ")
                 && print_number(label as u64)
                 && print_text(b" ")
                 && print_number(count as u64)
-                && print_guest(bag)
+                && print_guest(wide, bag)
         }
         Answer::Accepted(_) => print_text(b"accepted\n"),
         Answer::Refused(number, position) => print_refusal(number, position as u64),

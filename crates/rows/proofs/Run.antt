@@ -134,6 +134,11 @@ view-laid k (n ∷ rows) rest h =
     (ap₂ _∷_ (cut-number k n (laid k rows ++ rest) (h 0))
     (rw e (view-behind k (length rows) 0 (cut k n) (laid k rows ++ rest)) ∙ view-laid k rows rest (λ r. h (suc r))))
 
+pub laid-append : (k : ℕ) (xs ys : List ℕ) → laid k (xs ++ ys) ≡ laid k xs ++ laid k ys
+unfolding laid
+laid-append k [] ys = refl
+laid-append k (n ∷ xs) ys = ap (λ (x : List ℕ). cut k n ++ x) (laid-append k xs ys) ∙ sym (append-assoc (cut k n) (laid k xs) (laid k ys))
+
 -- ---- whole tables
 
 -- so many rows are in the words exactly if their words are

@@ -62,8 +62,8 @@ returns-4 c =
     let r = e .before .read .ensures in
     let none = held-in (a .wide) _ (held .held .ensures) (ap (λ (s : Sheet). s .forbidden) (r .0)) in
     sym (
-      check-clear (a .wide) (a .file .now) (a .table .now) (full test) (readable e) (omega (arith, g, held .before .if3 .left, rows .row-count .ensures .0))
-      (sym none ∙ eqb-true _ _ (sym (c .before .is-empty .ensures) ∙ c .if4 .taken))
+    check-clear (a .wide) (a .file .now) (a .table .now) (full test) (readable e) (omega (arith, g, held .before .if3 .left, rows .row-count .ensures .0))
+    (sym none ∙ eqb-true _ _ (sym (c .before .is-empty .ensures) ∙ c .if4 .taken))
     )
 
 lowest-label-requires : tie.Need-lowest-label-requires
@@ -83,8 +83,8 @@ returns-5 c =
     let some = held-in (a .wide) _ (held .held .ensures) (ap (λ (s : Sheet). s .forbidden) (r .0)) in
     ap (λ (l : ℕ). holds l 3) (c .lowest-label .ensures ∙ ap (trailingZeros (labels (a .wide))) some)
     ∙ sym (
-      check-held (a .wide) (a .file .now) (a .table .now) (full test) (readable e) (omega (arith, g, held .before .if3 .left, rows .row-count .ensures .0))
-      (not-none (empty .before .is-empty .ensures) (empty .if4 .left) some)
+    check-held (a .wide) (a .file .now) (a .table .now) (full test) (readable e) (omega (arith, g, held .before .if3 .left, rows .row-count .ensures .0))
+    (not-none (empty .before .is-empty .ensures) (empty .if4 .left) some)
     )
 
 pub examine-spec : {M : Type 1} → statement M

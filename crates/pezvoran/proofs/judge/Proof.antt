@@ -18,8 +18,7 @@ returns : tie.Need-returns
 returns c =
     let known = c .before .before in
     let a = known .before .before .args in
-    let short : length (a .table .now) < wordCount (a .wide) = omega (arith, c .if1 .taken, c .before .word-count .ensures .0) in
-    (
+    let short : length (a .table .now) < wordCount (a .wide) = omega (arith, c .if1 .taken, c .before .word-count .ensures .0) in (
       sym (short-outcome (a .wide) (a .file .now) (a .table .now) short),
       sym (short-words (a .wide) (a .file .now) (a .table .now) (λ i. known .slice-known .given i .fits) short),
     )
@@ -31,8 +30,7 @@ returns-2 c =
     let a = known .before .before .args in
     let r = c .before .read .ensures in
     let full : wordCount (a .wide) ≤ length (a .table .now) = omega (arith, test .if1 .left, test .before .word-count .ensures .0) in
-    let z : readFile (labels (a .wide)) (a .file .now) .refusal ≡ 0 → ⊥ = (λ q. c .if2 .taken (r .1 .0 ∙ q)) in
-    (
+    let z : readFile (labels (a .wide)) (a .file .now) .refusal ≡ 0 → ⊥ = (λ q. c .if2 .taken (r .1 .0 ∙ q)) in (
       ap₂ refused (r .1 .0) (r .1 .1) ∙ sym (refused-outcome (a .wide) (a .file .now) (a .table .now) full z),
       sym (refused-words (a .wide) (a .file .now) (a .table .now) full (λ i. known .slice-known .given i .fits) z),
     )
@@ -51,11 +49,10 @@ returns-3 c =
     let r = e .before .read .ensures in
     let full : wordCount (a .wide) ≤ length t = omega (arith, test .if1 .left, test .before .word-count .ensures .0) in
     let ok : readFile (labels (a .wide)) xs .refusal ≡ 0 = sym (r .1 .0) ∙ e .if2 .left in
-    let held = held-in (a .wide) _ (h .held .ensures) (ap (λ (z : Sheet). z .forbidden) (r .0)) in
-    (
+    let held = held-in (a .wide) _ (h .held .ensures) (ap (λ (z : Sheet). z .forbidden) (r .0)) in (
       c .judged .ensures
-      ∙ ap₂ (judgment (labels (a .wide))) held (n .count .ensures .0)
-      ∙ sym (judged-outcome (a .wide) xs t full ok _ (s .solve .ensures .least)),
+          ∙ ap₂ (judgment (labels (a .wide))) held (n .count .ensures .0)
+          ∙ sym (judged-outcome (a .wide) xs t full ok _ (s .solve .ensures .least)),
       left-words (a .wide) xs t full ok _ (λ i. known .slice-known2 .given i .fits) (s .solve .ensures),
     )
 

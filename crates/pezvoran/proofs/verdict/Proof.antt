@@ -19,8 +19,7 @@ returns : tie.Need-returns
 returns c =
     let j = c .before .before .before .judge .ensures in
     let known = c .before .before .before .before .before in
-    let a = known .before .before .args in
-    (
+    let a = known .before .before .args in (
       c .pack .ensures ∙ ap packed (j .0 ∙ ap (λ (n : ℕ). verdictOutcome 64 n (a .file .now)) (div-one (length (a .table .now)))),
       j .1 ∙ words-one (a .file .now) (a .table .now) (λ i. known .slice-known .given i .fits),
     )
