@@ -45,7 +45,8 @@ pub fn judge(file: &[u8], wide: bool, table: &mut [u64]) -> Answer
     ensures { λ r. ⌜ outcomeOf r ≡ verdictOutcome (labels wide) (roomFor (words wide) (now (table .entry))) (now (file .entry)) ⌝ }
     ensures { λ _. ⌜ now (table .exit) ≡ verdictWords (words wide) (labels wide) (now (file .entry)) (now (table .entry)) ⌝ }
 {
-    if table.len() < rows::word_count(wide) {
+    let full = rows::word_count(wide);
+    if table.len() < full {
         return Answer::Refused(8, 0);
     }
     let r = reader::read(file, wide);
