@@ -26,7 +26,8 @@ enum {
     ONES = 16,
     RANDOM = 32,
     FINISHED = 48,
-    FILLED = 192 /* both bits, and a byte from 240: the file is filled up to about the longest size */
+    FILLED = 64, /* with a byte from 240: the file is filled up to about the longest size */
+    LARGE = 128  /* the large edition */
 };
 
 #endif
