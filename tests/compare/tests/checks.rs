@@ -82,7 +82,7 @@ fn structured_tables_agree() {
 #[test]
 fn random_tables_agree() {
     on_files::<Small>("random", 400, generate::random_in);
-    on_files::<Large>("random", 100, generate::random_in);
+    on_files::<Large>("random", 30, generate::random_in);
 }
 
 #[test]

@@ -168,8 +168,7 @@ fn walks_come_to_hold_what_the_short_examples_leak() {
 }
 
 /// The verdict on an example with one record changed.
-fn changed_verdict(name: &str, record: &str, changed: &str) -> Answer {
-    let examples = examples();
+fn changed_verdict(examples: &[Example], name: &str, record: &str, changed: &str) -> Answer {
     let example = examples.iter().find(|example| example.name == name).expect("an example");
     let lines = example.text.lines().map(|line| if line.split('#').next().expect("a part").trim() == record { changed } else { line });
     let text = lines.collect::<Vec<_>>().join("\n");
@@ -191,8 +190,9 @@ fn one_changed_record_makes_a_confined_example_leak() {
         ("site-apart", "21 0 4 6 0 0 0 0 0 0 0", "21 0 4 2 0 0 0 0 0 0 0"),       // both calls share a helper
         ("gallery-confined", "21 7 0 6 0 5 0 0 0 0 0", "21 7 0 6 206 5 0 0 0 0 0"), // the listener has the journal as this
     ];
+    let examples = examples();
     for (name, record, changed) in changes {
-        let answer = changed_verdict(name, record, changed);
+        let answer = changed_verdict(&examples, name, record, changed);
         let journal = if name.starts_with("gallery") { 208 } else { 5 };
         assert!(matches!(answer, Answer::Leaks { label, .. } if label == journal), "{name} with {changed}: {answer}");
     }
@@ -200,7 +200,7 @@ fn one_changed_record_makes_a_confined_example_leak() {
 
 #[test]
 fn loads_from_what_stays_with_the_host_may_share_a_wrapper() {
-    let answer = changed_verdict("mint-confined", "17 18 31 14 5 33", "17 18 31 14 5 31");
+    let answer = changed_verdict(&examples(), "mint-confined", "17 18 31 14 5 33", "17 18 31 14 5 31");
     assert!(matches!(answer, Answer::Confined { .. }), "{answer}");
 }
 

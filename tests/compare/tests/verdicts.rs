@@ -65,7 +65,7 @@ fn fairly_shared(tally: Tally) {
 #[test]
 fn random_files_agree() {
     fairly_shared(many::<Small>("random", 3_000, generate::random_in));
-    fairly_shared(many::<Large>("random", 1_000, generate::random_in));
+    fairly_shared(many::<Large>("random", 500, generate::random_in));
 }
 
 #[test]
@@ -85,6 +85,13 @@ fn spread_labels_agree() {
 fn files_of_many_rounds_agree() {
     many::<Small>("rounds", 300, generate::rounds_in);
     many::<Large>("rounds", 300, generate::rounds_in);
+}
+
+/// Full files that need as many rounds as labels times variables.
+#[test]
+fn relays_agree() {
+    many::<Small>("relay", 10, generate::relay_in);
+    many::<Large>("relay", 10, generate::relay_in);
 }
 
 #[test]

@@ -1,6 +1,8 @@
 //! The generators in both editions: the same file for the same seed, readable where they promise it, and of every kind.
 
-use second::generate::{damaged_in, dense_in, every, every_in, random_in, rounds_in, spread_in, structured_in, Named};
+use second::generate::{
+    damaged_in, dense_in, every, every_in, random_in, relay_in, rounds_in, spread_in, structured_in, Named,
+};
 use second::reader::{body_length, read_in};
 use second::solver::{solve, Verdict};
 use second::Edition;
@@ -64,6 +66,21 @@ fn dense_files_are_full() {
     for edition in Edition::BOTH {
         shares(edition, "dense", dense_in, 60);
         assert!((0..60).all(|seed| dense_in(edition, seed).1.len() == 32_768));
+    }
+}
+
+/// Every runner passes the whole course: the last of them, which is forbidden, is in the last variable.
+#[test]
+fn relays_are_full_and_run_to_their_end() {
+    for edition in Edition::BOTH {
+        shares(edition, "relay", relay_in, 10);
+        for seed in 0..10 {
+            let (name, file) = relay_in(edition, seed);
+            let program = read_in(edition, &file).expect("readable");
+            let reached = edition.row(&solve(&program).table, edition.s(255));
+            assert!(file.len() == 32_768 && reached.count() as usize > edition.labels() - 30, "{name}");
+            assert!(!(reached & program.forbidden).is_empty(), "{name}");
+        }
     }
 }
 
