@@ -74,7 +74,7 @@ fn on_files<E: Edition>(what: &str, count: u64, make: fn(second::Edition, u64) -
 
 #[test]
 fn structured_tables_agree() {
-    for seen in [on_files::<Small>("structured", 400, generate::structured_in), on_files::<Large>("structured", 150, generate::structured_in)] {
+    for seen in [on_files::<Small>("structured", 400, generate::structured_in), on_files::<Large>("structured", 100, generate::structured_in)] {
         assert!([0, 8, 10, 11].iter().all(|&number| seen[number] > 0));
     }
 }
@@ -82,13 +82,13 @@ fn structured_tables_agree() {
 #[test]
 fn random_tables_agree() {
     on_files::<Small>("random", 400, generate::random_in);
-    on_files::<Large>("random", 30, generate::random_in);
+    on_files::<Large>("random", 15, generate::random_in);
 }
 
 #[test]
 fn tables_of_spread_labels_agree() {
-    on_files::<Small>("spread", 100, generate::spread_in);
-    on_files::<Large>("spread", 100, generate::spread_in);
+    on_files::<Small>("spread", 40, generate::spread_in);
+    on_files::<Large>("spread", 60, generate::spread_in);
 }
 
 #[test]
