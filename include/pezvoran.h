@@ -22,10 +22,10 @@ extern "C" {
 
    A call keeps nothing from one call to the next and takes no memory but the stack, so threads may call at the same time, each with a table of its
    own. The stack that a call takes is the same for every file; as measured (bench/RESULTS.md), in bytes:
-                 verdict    check
-       small      53,320   75,016
-       large      60,000  650,000   (expected; to be measured)
-   A thread with less dies; PEZVORAN_STACK_BYTES and PEZVORAN_LARGE_STACK_BYTES are what the tests give one. */
+                verdict     check
+       small     53,416    75,048
+       large     53,416   609,576
+   The check has a second table. A thread with less dies; PEZVORAN_STACK_BYTES and PEZVORAN_LARGE_STACK_BYTES are what the tests give one. */
 
 /* The verdict: confined, leaks or refused. Unless it refuses, the first PEZVORAN_TABLE_WORDS words of the table, or PEZVORAN_LARGE_TABLE_WORDS, become
    the finished table, whatever stood there; words beyond stay as they are. A refusal leaves every word as it is. */
@@ -54,7 +54,7 @@ enum {
     PEZVORAN_LARGE_ROW_WORDS = 4,
     PEZVORAN_LARGE_ROWS = 8960,
     PEZVORAN_LARGE_TABLE_WORDS = 35840,
-    PEZVORAN_LARGE_STACK_BYTES = 1048576
+    PEZVORAN_LARGE_STACK_BYTES = 786432
 };
 
 /* ---- an answer taken apart: a part that the outcome does not have is 0 */

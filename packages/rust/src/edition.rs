@@ -44,7 +44,7 @@ impl Edition for Small {
 
 impl Edition for Large {
     const LABELS: usize = 256;
-    const STACK_BYTES: usize = 1_048_576;
+    const STACK_BYTES: usize = 786_432;
 }
 
 impl Operations for Small {
