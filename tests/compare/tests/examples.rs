@@ -188,7 +188,7 @@ fn one_changed_record_makes_a_confined_example_leak() {
         ("adsafe-confined", "18 8 7 130 15", "18 8 7 128 15"),                    // lib takes every name
         ("wrapper-apart", "17 7 10 8 6 11", "17 7 10 8 6 10"),                    // both loads share a wrapper
         ("site-apart", "21 0 4 6 0 0 0 0 0 0 0", "21 0 4 2 0 0 0 0 0 0 0"),       // both calls share a helper
-        ("gallery-confined", "21 7 0 6 0 5 0 0 0 0 0", "21 7 0 6 206 5 0 0 0 0 0"), // the listener has the journal as this
+        ("gallery-confined", "21 8 0 6 0 5 0 0 0 0 0", "21 8 0 6 206 5 0 0 0 0 0"), // the listener has the journal as this
     ];
     let examples = examples();
     for (name, record, changed) in changes {
