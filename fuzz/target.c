@@ -200,14 +200,11 @@ static void make_words(const struct head *head, const struct edition *edition, c
     }
 }
 
-/* Takes a fact out of one of the four parts of a table, S, H, P and T, each as likely as the others: from the first word that has one, searched round
-   from some word on. */
-static void take_out(const struct edition *edition, uint64_t *words, unsigned part, size_t from, unsigned which)
+/* Takes a fact out of the first word that has one, searched round from some word on. */
+static void take_out(uint64_t *words, size_t length, size_t from, unsigned which)
 {
-    size_t begin = edition->parts[part] * edition->row_words;
-    size_t length = edition->parts[part + 1] * edition->row_words - begin;
     for (size_t i = 0; i < length; i++) {
-        uint64_t *word = &words[begin + (from + i) % length];
+        uint64_t *word = &words[(from + i) % length];
         if (*word != 0) {
             uint64_t fact = *word;
             for (which %= (unsigned)__builtin_popcountll(*word); which > 0; which--)
@@ -218,16 +215,18 @@ static void take_out(const struct edition *edition, uint64_t *words, unsigned pa
     }
 }
 
-/* One change of a table: a fact taken out, a fact added, or a word of zeros or ones. */
-static void change_words(const struct edition *edition, const uint8_t change[3], uint64_t *words)
+/* One change in one of the four parts of a table, S, H, P and T: a fact taken out, a label added, or a word of zeros or ones. */
+static void change_words(const struct edition *edition, const uint8_t change[4], uint64_t *words)
 {
     size_t place = change[0] | (size_t)change[1] << 8;
-    unsigned how = change[2] & 63;
-    switch (change[2] >> 6) {
+    unsigned how = change[2], part = change[3] & 3;
+    uint64_t *begin = words + edition->parts[part] * edition->row_words;
+    size_t length = (edition->parts[part + 1] - edition->parts[part]) * edition->row_words;
+    switch (change[3] >> 6) {
     case 0:
-    case 1: take_out(edition, words, how & 3, place, how >> 2); break;
-    case 2: words[place % edition->table_words] |= UINT64_C(1) << how; break;
-    default: words[place % edition->table_words] = how % 2 == 0 ? 0 : UINT64_MAX;
+    case 1: take_out(begin, length, place, how); break;
+    case 2: begin[place % length] |= UINT64_C(1) << how % 64; break;
+    default: begin[place % length] = how % 2 == 0 ? 0 : UINT64_MAX;
     }
 }
 

@@ -9,7 +9,7 @@ use std::path::Path;
 /// Modes of `input.h`: files as they are, what the table holds, memory before or behind, a raw file, a changed byte, functions left out.
 const MODES: [u8; 10] = [0, 16, 48, 8, 24, 32, 56, 1, 4, 2];
 const LARGE: u8 = 128;
-const HEAD: usize = 16;
+const HEAD: usize = 19;
 
 /// Every so many of the edge files, of which there are thousands.
 const EDGES_APART: usize = 16;
