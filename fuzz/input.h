@@ -4,7 +4,7 @@
 
 #include <stdint.h>
 
-enum { HEAD = 16, CHANGES = 3 };
+enum { HEAD = 19, CHANGES = 3 };
 
 struct head {
     uint8_t mode;
@@ -12,7 +12,7 @@ struct head {
     uint8_t at[2];              /* the byte of the file that is changed; the highest bit: to a value at a border */
     uint8_t byte;               /* what it becomes; from 240: how far the file is filled */
     uint8_t seed[2];            /* of random words */
-    uint8_t change[CHANGES][3]; /* of a table: row, and what is done there */
+    uint8_t change[CHANGES][4]; /* of a table: the place in one of its parts, which bit, and what is done there; the part is in the last two bits */
 };
 
 /* Bits of the mode. */
@@ -26,7 +26,8 @@ enum {
     ONES = 16,
     RANDOM = 32,
     FINISHED = 48,
-    FILLED = 192 /* both bits, and a byte from 240: the file is filled up to about the longest size */
+    FILLED = 64, /* with a byte from 240: the file is filled up to about the longest size */
+    LARGE = 128  /* the large edition */
 };
 
 #endif

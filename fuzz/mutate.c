@@ -45,7 +45,7 @@ static size_t change_record(uint8_t *bytes, size_t length, size_t room, unsigned
 /* Gives one group of the head's bytes random values: mode, table, damage, seed, or one of the changes. */
 static void change_head(uint8_t *head, unsigned seed)
 {
-    static const uint8_t ends[] = {0, 1, 2, 5, 7, 10, 13, 16};
+    static const uint8_t ends[] = {0, 1, 2, 5, 7, 11, 15, HEAD};
     unsigned group = seed % (sizeof ends - 1);
     for (unsigned i = ends[group]; i < ends[group + 1]; i++) {
         seed = seed * 1103515245u + 12345u;

@@ -3,13 +3,14 @@
 #include <string.h>
 
 enum { NONE, PLAIN, FUNCTION, ARRAY };             /* types of labels */
-enum { TOP = 0, GUEST = 3, FIRST_LABEL = 5, UNDECLARED = 255, NO_NAME = 255 }; /* owners are labels or UNDECLARED */
+enum { TOP = 0, GUEST = 3, FIRST_LABEL = 5, UNDECLARED = 256, NO_NAME = 255 }; /* owners are labels or UNDECLARED */
 
 /* What the records so far declare. */
 struct sheet {
-    uint8_t type[64];
-    uint8_t function[64];
-    uint8_t owner[256];
+    unsigned labels; /* those of the edition */
+    uint8_t type[256];
+    uint8_t function[256];
+    uint16_t owner[256];
     uint8_t masked[32];
 };
 
@@ -26,7 +27,7 @@ enum { KINDS = sizeof layout / sizeof layout[0] };
 
 static int made(const struct sheet *sheet, unsigned byte, uint8_t type)
 {
-    return byte >= FIRST_LABEL && byte < 64 && sheet->type[byte] == type;
+    return byte >= FIRST_LABEL && byte < sheet->labels && sheet->type[byte] == type;
 }
 
 /* Whether a byte is good in a field; `before` is the byte that stands before it. */
@@ -38,8 +39,8 @@ static int good(const struct sheet *sheet, char field, unsigned before, unsigned
     case 'L': return made(sheet, byte, NONE);                                       /* a label not declared */
     case 't': return byte >= PLAIN && byte <= ARRAY;                                /* a type */
     case 'b': return byte < 2;                                                      /* the built-in flag */
-    case 'd': return byte < 64 && sheet->type[byte] != NONE;                        /* a declared label */
-    case 'h': return byte < 64 && sheet->type[byte] != NONE && byte != GUEST;       /* the same, not the guest's */
+    case 'd': return sheet->type[byte] != NONE;                                     /* a declared label */
+    case 'h': return sheet->type[byte] != NONE && byte != GUEST;                    /* the same, not the guest's */
     case 'F': return made(sheet, byte, FUNCTION) && !sheet->function[byte];         /* a function without a record */
     case 'f': return made(sheet, byte, FUNCTION);                                   /* a function */
     case 'p': return made(sheet, byte, PLAIN);                                      /* a plain label */
@@ -91,10 +92,11 @@ size_t record_length(uint8_t kind)
     return 1 + strlen(layout[of_kind(kind)].fields);
 }
 
-size_t repair(const uint8_t *bytes, size_t length, int whole, uint8_t *file)
+size_t repair(const uint8_t *bytes, size_t length, unsigned labels, int whole, uint8_t *file)
 {
-    struct sheet sheet = {{PLAIN, PLAIN, PLAIN, FUNCTION, PLAIN}, {0}, {0}, {0}};
-    memset(sheet.owner, UNDECLARED, sizeof sheet.owner);
+    struct sheet sheet = {labels, {PLAIN, PLAIN, PLAIN, FUNCTION, PLAIN}, {0}, {0}, {0}};
+    for (unsigned v = 0; v < 256; v++)
+        sheet.owner[v] = UNDECLARED;
     size_t written = 0;
     size_t at = 0;
     while (at < length) {
@@ -113,11 +115,11 @@ size_t repair(const uint8_t *bytes, size_t length, int whole, uint8_t *file)
             written += size;
         }
     }
-    for (uint8_t l = FIRST_LABEL; whole && l < 64; l++)
+    for (unsigned l = FIRST_LABEL; whole && l < labels; l++)
         if (made(&sheet, l, FUNCTION) && !sheet.function[l]) {
             memset(file + written, 0, 9);
             file[written] = 4;
-            file[written + 1] = l;
+            file[written + 1] = (uint8_t)l;
             written += 9;
         }
     return written;

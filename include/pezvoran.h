@@ -1,4 +1,4 @@
-/* Pezvoran for C: the verdict on a statement file and the check of a finished table.
+/* Pezvoran for C: the verdict on a statement file and the check of a finished table, for 64 labels and for 256.
    Link with libpezvoran.a, which `rt staticlib pezvoran` writes to target/staticlib. C99 or later, or C++. */
 #ifndef PEZVORAN_H
 #define PEZVORAN_H
@@ -12,31 +12,49 @@ extern "C" {
 
 /* ---- the operations */
 
-/* Both take any bytes and any table, empty ones too: nothing has to be tested before a call. Lengths are in bytes and in words. A pointer may be
-   NULL where its length is 0; else it points to that many bytes or words, a table's pointer is aligned as a uint64_t is, and file and table do not
+/* There are two editions. In the small one label bytes are 0 to 63 and a row of the table is one word; in the large one they are 0 to 255 and a row is
+   four words. A file that the small edition reads has the same verdict, label and count in the large one. Names with LARGE and large are the large
+   edition's; a name without them is the small one's, or both's where there is no other. A table made in one edition is no table of the other.
+
+   All operations take any bytes and any table, empty ones too: nothing has to be tested before a call. Lengths are in bytes and in words. A pointer may
+   be NULL where its length is 0; else it points to that many bytes or words, a table's pointer is aligned as a uint64_t is, and file and table do not
    overlap. The answer is one word, to be read with the functions below.
 
    A call keeps nothing from one call to the next and takes no memory but the stack, so threads may call at the same time, each with a table of its
-   own. The stack that a call takes is the same for every file: 53,320 bytes for a verdict, 75,016 for a check, as measured (bench/RESULTS.md). A thread
-   with less dies; PEZVORAN_STACK_BYTES is what the tests give one. */
+   own. The stack that a call takes is the same for every file; as measured (bench/RESULTS.md), in bytes:
+                verdict     check
+       small     53,416    75,048
+       large     53,416   609,576
+   The check has a second table. A thread with less dies; PEZVORAN_STACK_BYTES and PEZVORAN_LARGE_STACK_BYTES are what the tests give one. */
 
-/* The verdict: confined, leaks or refused. Unless it refuses, the first PEZVORAN_TABLE_WORDS words of the table become the finished table, whatever
-   stood there; words beyond stay as they are. A refusal leaves every word as it is. */
+/* The verdict: confined, leaks or refused. Unless it refuses, the first PEZVORAN_TABLE_WORDS words of the table, or PEZVORAN_LARGE_TABLE_WORDS, become
+   the finished table, whatever stood there; words beyond stay as they are. A refusal leaves every word as it is. */
 uint64_t verdict(const uint8_t *file, size_t file_length, uint64_t *table, size_t table_length);
+uint64_t verdict_large(const uint8_t *file, size_t file_length, uint64_t *table, size_t table_length);
 
 /* The check of a finished table, whoever made it: accepted or refused. It only reads. An accepted table shows that the file is confined. */
 uint64_t check(const uint8_t *file, size_t file_length, const uint64_t *table, size_t table_length);
+uint64_t check_large(const uint8_t *file, size_t file_length, const uint64_t *table, size_t table_length);
 
 /* ---- sizes */
 
 enum {
-    PEZVORAN_TABLE_WORDS = 2432, /* a full table, one 64-bit word a row */
     PEZVORAN_FILE_BYTES = 32768, /* the longest statement file */
     PEZVORAN_VARIABLES = 256,
-    PEZVORAN_LABELS = 64,
     PEZVORAN_NAMES = 32,
-    PEZVORAN_GUEST_ROW = 1,       /* what the guest may hold */
-    PEZVORAN_STACK_BYTES = 98304 /* enough stack for a thread that calls either operation */
+    PEZVORAN_GUEST_ROW = 1, /* what the guest may hold */
+
+    PEZVORAN_LABELS = 64,
+    PEZVORAN_ROW_WORDS = 1, /* 64-bit words of a row */
+    PEZVORAN_ROWS = 2432,
+    PEZVORAN_TABLE_WORDS = 2432, /* a full table */
+    PEZVORAN_STACK_BYTES = 98304, /* enough stack for a thread that calls either operation */
+
+    PEZVORAN_LARGE_LABELS = 256,
+    PEZVORAN_LARGE_ROW_WORDS = 4,
+    PEZVORAN_LARGE_ROWS = 8960,
+    PEZVORAN_LARGE_TABLE_WORDS = 35840,
+    PEZVORAN_LARGE_STACK_BYTES = 786432
 };
 
 /* ---- an answer taken apart: a part that the outcome does not have is 0 */
@@ -129,7 +147,7 @@ static inline const char *pezvoran_refusal_text(unsigned number)
     case PEZVORAN_BAD_VALUE: return "a name, key, mask, type or flag of the record is out of range";
     case PEZVORAN_DECLARED_TWICE: return "the record declares a name, label, variable or function a second time";
     case PEZVORAN_FUNCTION_MISSING: return "a function label has no function record";
-    case PEZVORAN_TABLE_TOO_SHORT: return "the table has fewer than 2432 words";
+    case PEZVORAN_TABLE_TOO_SHORT: return "the table is not full: a full one has 2432 words, in the large edition 35840";
     case PEZVORAN_FILE_TOO_LONG: return "the file is longer than 32768 bytes";
     case PEZVORAN_TABLE_NOT_CLOSED: return "the table lacks a fact that the rules give";
     case PEZVORAN_FORBIDDEN_HELD: return "by the table the guest may hold a forbidden label";
@@ -154,36 +172,53 @@ static inline const char *pezvoran_position_means(unsigned number)
     }
 }
 
-/* ---- the rows of a table; bit l of a row stands for label l */
+/* ---- the rows of a table: row r of the small edition is word r of the table, and bit l of it stands for label l; row r of the large edition is the run
+   of four words from word 4r, and label l is bit l of the run */
 
-/* What a variable may hold. */
+/* What a variable may hold; in both editions. */
 static inline size_t pezvoran_variable_row(uint8_t variable)
 {
     return variable;
 }
 
-/* What a property of a label's objects may hold; label below 64, name below 32. */
+/* What a property of a label's objects may hold; in both editions. In all that follows a label is one of the edition, and a name is below 32. */
 static inline size_t pezvoran_property_row(uint8_t label, uint8_t name)
 {
-    return 256 + 32 * (size_t)label + name;
+    return PEZVORAN_VARIABLES + PEZVORAN_NAMES * (size_t)label + name;
 }
 
-/* What may stand on the prototype chain of a label's objects; label below 64. */
+/* What may stand on the prototype chain of a label's objects. */
 static inline size_t pezvoran_chain_row(uint8_t label)
 {
-    return 2304 + (size_t)label;
+    return PEZVORAN_ROWS - 2 * PEZVORAN_LABELS + (size_t)label;
 }
 
-/* What may be thrown in a scope; scope below 64. */
+static inline size_t pezvoran_large_chain_row(uint8_t label)
+{
+    return PEZVORAN_LARGE_ROWS - 2 * PEZVORAN_LARGE_LABELS + (size_t)label;
+}
+
+/* What may be thrown in a scope, which is 0 or a label. */
 static inline size_t pezvoran_thrown_row(uint8_t scope)
 {
-    return 2368 + (size_t)scope;
+    return PEZVORAN_ROWS - PEZVORAN_LABELS + (size_t)scope;
 }
 
-/* Whether a row holds a label; label below 64. */
+static inline size_t pezvoran_large_thrown_row(uint8_t scope)
+{
+    return PEZVORAN_LARGE_ROWS - PEZVORAN_LARGE_LABELS + (size_t)scope;
+}
+
+/* Whether a row, given by its one word, holds a label. */
 static inline int pezvoran_holds(uint64_t row, uint8_t label)
 {
     return (int)(row >> label & 1);
+}
+
+/* Whether a row of a large table, given by its number, holds a label. */
+static inline int pezvoran_large_holds(const uint64_t *table, size_t row, uint8_t label)
+{
+    return pezvoran_holds(table[PEZVORAN_LARGE_ROW_WORDS * row + label / 64], label % 64);
 }
 
 #ifdef __cplusplus

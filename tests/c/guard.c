@@ -1,6 +1,6 @@
-/* What the operations touch. Every case is called with tables of 0, 2431, 2432 and 2433 words, in two ways: with guard bytes round each buffer, and
-   with buffers of the exact size, the verdict's table not set before, so that valgrind sees any read or write outside and any use of what stood in
-   the table. The check gets file and table in memory that cannot be written. */
+/* What the operations of both editions touch. Every case is called with tables of no words, one too few, just enough, and one and three more, in two
+   ways: with guard bytes round each buffer, and with buffers of the exact size, the verdict's table not set before, so that valgrind sees any read or
+   write outside and any use of what stood in the table. The check gets file and table in memory that cannot be written. */
 #define _DEFAULT_SOURCE /* for MAP_ANONYMOUS */
 #include "pezvoran.h"
 
@@ -11,19 +11,33 @@
 
 enum { GUARD = 64, GUARD_BYTE = 0xa5, PAGE = 65536, GUEST = 3 }; /* PAGE: a multiple of the usual page sizes; GUEST: the guest's label */
 
+static const struct {
+    const char *name;
+    uint64_t (*verdict)(const uint8_t *file, size_t file_length, uint64_t *table, size_t table_length);
+    uint64_t (*check)(const uint8_t *file, size_t file_length, const uint64_t *table, size_t table_length);
+    size_t table_words;
+    unsigned labels;
+} editions[] = {
+    {"small", verdict, check, PEZVORAN_TABLE_WORDS, PEZVORAN_LABELS},
+    {"large", verdict_large, check_large, PEZVORAN_LARGE_TABLE_WORDS, PEZVORAN_LARGE_LABELS},
+}, *edition;
+
 static const uint8_t confined[] = {2, 5, 1, 0, 3, 5, 5, 2, 0, 255, 8, 2, 5};
 static const uint8_t leaks[] = {2, 5, 1, 0, 3, 5, 5, 2, 0, 255, 8, 2, 5, 6, 2};
 static const uint8_t unknown_kind[] = {3, 3, 9};
 static const uint8_t cut_short[] = {3, 3, 2, 5, 1};
 static const uint8_t bad_variable[] = {6, 1};
-static const uint8_t bad_label[] = {2, 64, 1, 0};
+static const uint8_t bad_label[] = {2, 4, 1, 0};
+static const uint8_t last_label[] = {2, 255, 1, 0, 3, 255, 5, 2, 0, 255, 8, 2, 255, 6, 2};
+static const uint8_t label_64[] = {2, 64, 1, 0};
 static const uint8_t bad_value[] = {1, 32, 1};
 static const uint8_t declared_twice[] = {2, 5, 1, 0, 2, 5, 1, 0};
 static const uint8_t function_missing[] = {2, 5, 2, 0};
 static uint8_t longest[PEZVORAN_FILE_BYTES];
 static uint8_t too_long[PEZVORAN_FILE_BYTES + 1];
 
-/* A file, and what a verdict on it is with a full table: number and position where it is refused, else label and count. */
+/* A file, and what a verdict on it is with a full table: number and position where it is refused, else label and count. Where its first record declares a
+   label that the edition does not have, it is refused 4 at 0 instead. */
 static const struct {
     const char *name;
     const uint8_t *file;
@@ -39,6 +53,8 @@ static const struct {
     {"cut short", cut_short, sizeof cut_short, PEZVORAN_REFUSED, PEZVORAN_RECORD_CUT_SHORT, 2},
     {"bad variable", bad_variable, sizeof bad_variable, PEZVORAN_REFUSED, PEZVORAN_BAD_VARIABLE, 0},
     {"bad label", bad_label, sizeof bad_label, PEZVORAN_REFUSED, PEZVORAN_BAD_LABEL, 0},
+    {"last label", last_label, sizeof last_label, PEZVORAN_LEAKS, 255, 148},
+    {"label 64", label_64, sizeof label_64, PEZVORAN_CONFINED, 0, 47},
     {"bad value", bad_value, sizeof bad_value, PEZVORAN_REFUSED, PEZVORAN_BAD_VALUE, 0},
     {"declared twice", declared_twice, sizeof declared_twice, PEZVORAN_REFUSED, PEZVORAN_DECLARED_TWICE, 4},
     {"function missing", function_missing, sizeof function_missing, PEZVORAN_REFUSED, PEZVORAN_FUNCTION_MISSING, 4},
@@ -46,14 +62,15 @@ static const struct {
     {"too long", too_long, sizeof too_long, PEZVORAN_REFUSED, PEZVORAN_FILE_TOO_LONG, 0},
 };
 
-static const size_t table_lengths[] = {0, PEZVORAN_TABLE_WORDS - 1, PEZVORAN_TABLE_WORDS, PEZVORAN_TABLE_WORDS + 1};
+/* The lengths of tables, by what they have beyond a full one. */
+static const int beyond[] = {-1, 0, 1, 3};
 
 static const char *running = "start";
 
 static void must(int holds, const char *what)
 {
     if (!holds) {
-        fprintf(stderr, "guard: %s: %s\n", running, what);
+        fprintf(stderr, "guard: %s edition: %s: %s\n", edition->name, running, what);
         exit(1);
     }
 }
@@ -92,11 +109,21 @@ static int same(const void *left, const void *right, size_t bytes)
     return bytes == 0 || memcmp(left, right, bytes) == 0;
 }
 
+/* Whether the first record declares a label that the edition does not have. */
+static int beyond_labels(size_t i)
+{
+    return cases[i].length >= 2 && cases[i].file[0] == 2 && cases[i].file[1] >= edition->labels;
+}
+
 /* The answer that a case must get with a table of this length. */
 static void must_answer(size_t i, size_t table_length, uint64_t answer)
 {
-    if (table_length < PEZVORAN_TABLE_WORDS) {
+    if (table_length < edition->table_words) {
         must(pezvoran_number(answer) == PEZVORAN_TABLE_TOO_SHORT && pezvoran_position(answer) == 0, "a short table is refused 8 at 0");
+        return;
+    }
+    if (beyond_labels(i)) {
+        must(pezvoran_number(answer) == PEZVORAN_BAD_LABEL && pezvoran_position(answer) == 0, "a label that the edition lacks is refused 4");
         return;
     }
     must(pezvoran_outcome_of(answer) == cases[i].outcome, "outcome");
@@ -116,14 +143,14 @@ static uint8_t *guarded_verdict(size_t i, size_t table_length, uint64_t *answer)
     size_t table_bytes = table_length * sizeof(uint64_t);
     uint8_t *file = with_guards(cases[i].file, cases[i].length);
     uint8_t *table = with_guards(NULL, table_bytes);
-    *answer = verdict(file + GUARD, cases[i].length, (uint64_t *)(void *)(table + GUARD), table_length);
+    *answer = edition->verdict(file + GUARD, cases[i].length, (uint64_t *)(void *)(table + GUARD), table_length);
     must_answer(i, table_length, *answer);
     must(guards_stand(file, cases[i].length) && same(file + GUARD, cases[i].file, cases[i].length), "the file is only read");
     must(guards_stand(table, table_bytes), "nothing is written round the table");
     if (pezvoran_outcome_of(*answer) == PEZVORAN_REFUSED)
         must(all_guard_bytes(table + GUARD, table_bytes), "a refusal leaves every word");
     else
-        must(all_guard_bytes(table + GUARD + PEZVORAN_TABLE_WORDS * 8, table_bytes - PEZVORAN_TABLE_WORDS * 8), "words beyond stay");
+        must(all_guard_bytes(table + GUARD + edition->table_words * 8, table_bytes - edition->table_words * 8), "words beyond stay");
     free(file);
     return table;
 }
@@ -135,9 +162,9 @@ static void exact_verdict(size_t i, size_t table_length, uint64_t answer, const 
     uint64_t *table = table_length == 0 ? NULL : some(malloc(table_length * sizeof *table));
     if (file != NULL)
         memcpy(file, cases[i].file, cases[i].length);
-    must(verdict(file, cases[i].length, table, table_length) == answer, "what stood in the table does not matter");
+    must(edition->verdict(file, cases[i].length, table, table_length) == answer, "what stood in the table does not matter");
     if (pezvoran_outcome_of(answer) != PEZVORAN_REFUSED)
-        must(same(table, finished, PEZVORAN_TABLE_WORDS * sizeof *table), "the same finished table");
+        must(same(table, finished, edition->table_words * sizeof *table), "the same finished table");
     free(table);
     free(file);
 }
@@ -162,7 +189,7 @@ static void must_check(size_t i, size_t table_length, uint64_t answer, const uin
     size_t file_mapped, table_mapped;
     const uint8_t *file = read_only(cases[i].file, cases[i].length, &file_pages, &file_mapped);
     const uint64_t *table = read_only(left, table_length * sizeof *table, &table_pages, &table_mapped);
-    uint64_t checked = check(file, cases[i].length, table, table_length);
+    uint64_t checked = edition->check(file, cases[i].length, table, table_length);
     switch (pezvoran_outcome_of(answer)) {
     case PEZVORAN_CONFINED:
         must(pezvoran_outcome_of(checked) == PEZVORAN_ACCEPTED, "the check accepts the table of a confined file");
@@ -181,35 +208,49 @@ static void must_check(size_t i, size_t table_length, uint64_t answer, const uin
 /* An empty table is not closed, for any readable file: its lowest gap is row 1, since the guest holds what it makes. */
 static void an_empty_table_is_not_closed(void)
 {
-    uint64_t *table = some(calloc(PEZVORAN_TABLE_WORDS, sizeof *table));
-    uint64_t answer = check(NULL, 0, table, PEZVORAN_TABLE_WORDS);
+    uint64_t *table = some(calloc(edition->table_words, sizeof *table));
+    uint64_t answer = edition->check(NULL, 0, table, edition->table_words);
     must(pezvoran_number(answer) == PEZVORAN_TABLE_NOT_CLOSED && pezvoran_position(answer) == PEZVORAN_GUEST_ROW, "refused 10 at row 1");
     free(table);
 }
 
 static void a_pointer_to_nothing_may_be_null(void)
 {
-    must(pezvoran_number(verdict(NULL, 0, NULL, 0)) == PEZVORAN_TABLE_TOO_SHORT, "the verdict refuses 8");
-    must(pezvoran_number(check(NULL, 0, NULL, 0)) == PEZVORAN_TABLE_TOO_SHORT, "the check refuses 8");
+    must(pezvoran_number(edition->verdict(NULL, 0, NULL, 0)) == PEZVORAN_TABLE_TOO_SHORT, "the verdict refuses 8");
+    must(pezvoran_number(edition->check(NULL, 0, NULL, 0)) == PEZVORAN_TABLE_TOO_SHORT, "the check refuses 8");
+}
+
+/* All calls of a case with a table of this length. */
+static void try_case(size_t i, size_t table_length)
+{
+    uint64_t answer;
+    uint8_t *left = guarded_verdict(i, table_length, &answer);
+    exact_verdict(i, table_length, answer, left + GUARD);
+    must_check(i, table_length, answer, left + GUARD);
+    free(left);
+}
+
+static void try_edition(void)
+{
+    for (size_t i = 0; i < sizeof cases / sizeof *cases; i++) {
+        running = cases[i].name;
+        try_case(i, 0);
+        for (size_t j = 0; j < sizeof beyond / sizeof *beyond; j++)
+            try_case(i, edition->table_words + (size_t)beyond[j]);
+    }
+    running = "no file";
+    an_empty_table_is_not_closed();
+    a_pointer_to_nothing_may_be_null();
 }
 
 int main(void)
 {
     memset(longest, 3, sizeof longest);
     memset(too_long, 3, sizeof too_long);
-    for (size_t i = 0; i < sizeof cases / sizeof *cases; i++) {
-        running = cases[i].name;
-        for (size_t j = 0; j < sizeof table_lengths / sizeof *table_lengths; j++) {
-            uint64_t answer;
-            uint8_t *left = guarded_verdict(i, table_lengths[j], &answer);
-            exact_verdict(i, table_lengths[j], answer, left + GUARD);
-            must_check(i, table_lengths[j], answer, left + GUARD);
-            free(left);
-        }
+    for (size_t i = 0; i < sizeof editions / sizeof *editions; i++) {
+        edition = &editions[i];
+        try_edition();
     }
-    running = "no file";
-    an_empty_table_is_not_closed();
-    a_pointer_to_nothing_may_be_null();
     printf("guard: nothing outside the slices is touched, and the check only reads\n");
     return 0;
 }

@@ -1,8 +1,6 @@
 //! The second implementation under the C interface of the archive: the same parameters, and the answer in the word that `include/pezvoran.h` takes apart.
 
-use second::check;
-use second::reader::Refusal;
-use second::solver::{self, Verdict};
+use second::{check_in, verdict_in, Edition, Refusal, Verdict};
 use std::slice;
 
 const LEAKS: u64 = 1 << 4;
@@ -15,13 +13,8 @@ fn refused(refusal: Refusal) -> u64 {
     u64::from(refusal.number) | (refusal.position as u64) << 4 | guest
 }
 
-/// # Safety
-/// `file` and `table` point to as many bytes and words as their lengths say.
-#[no_mangle]
-pub unsafe extern "C" fn second_verdict(file: *const u8, file_length: usize, table: *mut u64, table_length: usize) -> u64 {
-    let file = slice::from_raw_parts(file, file_length);
-    let table = slice::from_raw_parts_mut(table, table_length);
-    match solver::verdict(file, table) {
+fn verdict_word(edition: Edition, file: &[u8], table: &mut [u64]) -> u64 {
+    match verdict_in(edition, file, table) {
         Err(refusal) => refused(refusal),
         Ok(answer) => {
             let count = u64::from(answer.facts) << 32;
@@ -33,14 +26,28 @@ pub unsafe extern "C" fn second_verdict(file: *const u8, file_length: usize, tab
     }
 }
 
-/// # Safety
-/// `file` and `table` point to as many bytes and words as their lengths say.
-#[no_mangle]
-pub unsafe extern "C" fn second_check(file: *const u8, file_length: usize, table: *const u64, table_length: usize) -> u64 {
-    let file = slice::from_raw_parts(file, file_length);
-    let table = slice::from_raw_parts(table, table_length);
-    match check::check(file, table) {
-        Err(refusal) => refused(refusal),
-        Ok(()) => ACCEPTED,
-    }
+fn check_word(edition: Edition, file: &[u8], table: &[u64]) -> u64 {
+    check_in(edition, file, table).map_or_else(refused, |()| ACCEPTED)
 }
+
+/// Makes the C functions of an edition.
+macro_rules! operations {
+    ($edition:expr, $verdict:ident, $check:ident) => {
+        /// # Safety
+        /// `file` and `table` point to as many bytes and words as their lengths say.
+        #[no_mangle]
+        pub unsafe extern "C" fn $verdict(file: *const u8, file_length: usize, table: *mut u64, table_length: usize) -> u64 {
+            verdict_word($edition, slice::from_raw_parts(file, file_length), slice::from_raw_parts_mut(table, table_length))
+        }
+
+        /// # Safety
+        /// `file` and `table` point to as many bytes and words as their lengths say.
+        #[no_mangle]
+        pub unsafe extern "C" fn $check(file: *const u8, file_length: usize, table: *const u64, table_length: usize) -> u64 {
+            check_word($edition, slice::from_raw_parts(file, file_length), slice::from_raw_parts(table, table_length))
+        }
+    };
+}
+
+operations!(Edition::Small, second_verdict, second_check);
+operations!(Edition::Large, second_verdict_large, second_check_large);

@@ -98,7 +98,7 @@ impl Refusal {
             5 => "a name, key, mask, type or flag of the record is out of range",
             6 => "the record declares a name, label, variable or function a second time",
             7 => "a function label has no function record",
-            8 => "the table has fewer than 2432 words",
+            8 => "the table is not full: a full one has 2432 words, in the large edition 35840",
             9 => "the file is longer than 32768 bytes",
             10 => "the table lacks a fact that the rules give",
             11 => "by the table the guest may hold a forbidden label",

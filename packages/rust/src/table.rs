@@ -1,16 +1,30 @@
-//! A table of full size, and its rows by what they stand for.
+//! A table of full size, and its rows by what they stand for; what can be lent to an operation.
 
-use crate::{LABELS, NAMES, TABLE_WORDS};
-use std::ops::{Deref, DerefMut};
+use crate::edition::VARIABLES;
+use crate::{Edition, Large, NAMES};
+use std::marker::PhantomData;
 
-/// A full table; as a slice it can be lent to both operations.
+/// A full table of an edition.
 #[derive(Clone, Debug, PartialEq, Eq)]
-pub struct Table(Box<[u64; TABLE_WORDS]>);
+pub struct Table<E> {
+    words: Box<[u64]>,
+    edition: PhantomData<E>,
+}
 
-impl Table {
+impl<E: Edition> Table<E> {
     /// A table of zeros.
-    pub fn new() -> Table {
-        Table(Box::new([0; TABLE_WORDS]))
+    pub fn new() -> Table<E> {
+        Table { words: vec![0; E::TABLE_WORDS].into(), edition: PhantomData }
+    }
+
+    /// The words: row after row.
+    pub fn words(&self) -> &[u64] {
+        &self.words
+    }
+
+    /// The words, to be changed.
+    pub fn words_mut(&mut self) -> &mut [u64] {
+        &mut self.words
     }
 
     /// What the guest may hold.
@@ -20,73 +34,93 @@ impl Table {
 
     /// What a variable may hold.
     pub fn variable(&self, variable: u8) -> Labels {
-        Labels(self[usize::from(variable)])
+        self.row(variable.into())
     }
 
-    /// What a property of a label's objects may hold. Panics for a label above 63 or a name above 31.
+    /// What a property of a label's objects may hold. Panics for a label that the edition does not have or a name above 31.
     pub fn property(&self, label: u8, name: u8) -> Labels {
         assert!(usize::from(name) < NAMES, "names are 0 to 31");
-        Labels(self[256 + NAMES * below_labels(label) + usize::from(name)])
+        self.row(VARIABLES + NAMES * number::<E>(label) + usize::from(name))
     }
 
-    /// What may stand on the prototype chain of a label's objects. Panics for a label above 63.
+    /// What may stand on the prototype chain of a label's objects. Panics for a label that the edition does not have.
     pub fn chain(&self, label: u8) -> Labels {
-        Labels(self[2_304 + below_labels(label)])
+        self.row(E::ROWS - 2 * E::LABELS + number::<E>(label))
     }
 
-    /// What may be thrown in a scope. Panics for a scope above 63.
+    /// What may be thrown in a scope. Panics for a scope that is no label of the edition.
     pub fn thrown(&self, scope: u8) -> Labels {
-        Labels(self[2_368 + below_labels(scope)])
+        self.row(E::ROWS - E::LABELS + number::<E>(scope))
+    }
+
+    /// The labels of a row by its number, which refusal 10 gives. Panics where there is no such row.
+    pub fn row(&self, row: usize) -> Labels {
+        let mut labels = Labels([0; Large::ROW_WORDS]);
+        labels.0[..E::ROW_WORDS].copy_from_slice(&self.words[row * E::ROW_WORDS..][..E::ROW_WORDS]);
+        labels
     }
 
     /// The words, low byte first, to be kept in a file.
     pub fn to_bytes(&self) -> Vec<u8> {
-        self.iter().flat_map(|word| word.to_le_bytes()).collect()
+        self.words.iter().flat_map(|word| word.to_le_bytes()).collect()
     }
 
-    /// A table from `to_bytes`; none where the bytes are not 2,432 words.
-    pub fn from_bytes(bytes: &[u8]) -> Option<Table> {
+    /// A table from `to_bytes`; none where the bytes are not as many as the edition's tables have.
+    pub fn from_bytes(bytes: &[u8]) -> Option<Table<E>> {
         let words = bytes.chunks_exact(8).map(|word| u64::from_le_bytes(word.try_into().expect("eight bytes")));
-        let words: Box<[u64; TABLE_WORDS]> = words.collect::<Box<[u64]>>().try_into().ok()?;
-        (bytes.len() == TABLE_WORDS * 8).then_some(Table(words))
+        (bytes.len() == E::TABLE_WORDS * 8).then(|| Table { words: words.collect(), edition: PhantomData })
     }
 }
 
-fn below_labels(label: u8) -> usize {
-    assert!(usize::from(label) < LABELS, "labels are 0 to 63");
-    usize::from(label)
+/// The number of a label of the edition.
+fn number<E: Edition>(label: u8) -> usize {
+    assert!(usize::from(label) < E::LABELS, "labels are 0 to {}", E::LABELS - 1);
+    label.into()
 }
 
-impl Default for Table {
-    fn default() -> Table {
+impl<E: Edition> Default for Table<E> {
+    fn default() -> Table<E> {
         Table::new()
     }
 }
 
-impl Deref for Table {
-    type Target = [u64];
+/// What can be lent to an operation of the edition: a table of that edition, or plain words of any number.
+pub trait Lent<E> {
+    fn words(&self) -> &[u64];
+    fn words_mut(&mut self) -> &mut [u64];
+}
 
-    fn deref(&self) -> &[u64] {
-        &self.0[..]
+impl<E: Edition> Lent<E> for Table<E> {
+    fn words(&self) -> &[u64] {
+        &self.words
+    }
+
+    fn words_mut(&mut self) -> &mut [u64] {
+        &mut self.words
     }
 }
 
-impl DerefMut for Table {
-    fn deref_mut(&mut self) -> &mut [u64] {
-        &mut self.0[..]
+impl<E: Edition, W: AsRef<[u64]> + AsMut<[u64]> + ?Sized> Lent<E> for W {
+    fn words(&self) -> &[u64] {
+        self.as_ref()
+    }
+
+    fn words_mut(&mut self) -> &mut [u64] {
+        self.as_mut()
     }
 }
 
 /// The labels of a row, ascending.
 #[derive(Clone, Copy, Debug, PartialEq, Eq)]
-pub struct Labels(u64);
+pub struct Labels([u64; Large::ROW_WORDS]);
 
 impl Iterator for Labels {
     type Item = u8;
 
     fn next(&mut self) -> Option<u8> {
-        let lowest = (self.0 != 0).then(|| self.0.trailing_zeros() as u8)?;
-        self.0 &= self.0 - 1;
-        Some(lowest)
+        let (place, word) = self.0.iter_mut().enumerate().find(|(_, word)| **word != 0)?;
+        let lowest = word.trailing_zeros();
+        *word &= *word - 1;
+        Some((place as u32 * u64::BITS + lowest) as u8)
     }
 }

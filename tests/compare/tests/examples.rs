@@ -1,9 +1,10 @@
-//! Every file in `examples` prints what its head states, by the archive and by the second implementation; its bytes are made by `examples/bytes`.
+//! Every file in `examples`, and those that `examples/gallery` writes, print what their heads state, by the archive and by the second implementation; the
+//! bytes are made by `examples/bytes`. A file of the small edition prints the same in the large one.
 
-use pezvoran::{check, verdict, Answer, Refusal, Table};
+use compare::edition;
+use pezvoran::{check, verdict, Answer, Edition, Large, Refusal, Small, Table};
 use second::machine::witnessed;
-use second::reader::read;
-use second::report::report;
+use second::{read_in, report_in};
 use std::path::{Path, PathBuf};
 use std::process::{Command, Output};
 use std::sync::atomic::{AtomicUsize, Ordering};
@@ -14,12 +15,49 @@ struct Example {
     file: Vec<u8>,
 }
 
-fn folder() -> PathBuf {
-    Path::new(env!("CARGO_MANIFEST_DIR")).join("../../examples")
+impl Example {
+    fn of(name: String, text: String) -> Example {
+        let made = bytes_of(&text);
+        assert!(made.status.success(), "{name}");
+        Example { name, text, file: made.stdout }
+    }
+
+    /// Whether its head says that it is of the large edition alone.
+    fn is_large(&self) -> bool {
+        self.text.lines().any(|line| line == "# edition: large")
+    }
+
+    fn edition(&self) -> second::Edition {
+        if self.is_large() {
+            edition::<Large>()
+        } else {
+            edition::<Small>()
+        }
+    }
+
+    /// What the head states, as the program `verdict` would print it.
+    fn stated(&self) -> String {
+        let lines = self.text.lines().filter_map(|line| line.strip_prefix("# prints: "));
+        lines.map(|line| format!("{line}\n")).collect()
+    }
+
+    /// The archive's answer and finished table, in the edition of the head.
+    fn judged(&self) -> (Answer, Vec<u64>) {
+        if self.is_large() {
+            judged::<Large>(&self.file)
+        } else {
+            judged::<Small>(&self.file)
+        }
+    }
 }
 
-fn made_bytes(path: &Path) -> Output {
-    Command::new(folder().join("bytes")).arg(path).output().expect("examples/bytes runs")
+fn judged<E: Edition>(file: &[u8]) -> (Answer, Vec<u64>) {
+    let mut table = Table::<E>::new();
+    (verdict(file, &mut table), table.words().to_vec())
+}
+
+fn folder() -> PathBuf {
+    Path::new(env!("CARGO_MANIFEST_DIR")).join("../../examples")
 }
 
 /// What `examples/bytes` makes of a text.
@@ -27,46 +65,64 @@ fn bytes_of(text: &str) -> Output {
     static FILES: AtomicUsize = AtomicUsize::new(0);
     let path = Path::new(env!("CARGO_TARGET_TMPDIR")).join(format!("text-{}.txt", FILES.fetch_add(1, Ordering::Relaxed)));
     std::fs::write(&path, text).expect("written");
-    made_bytes(&path)
+    Command::new(folder().join("bytes")).arg(path).output().expect("examples/bytes runs")
+}
+
+/// What `examples/gallery` writes.
+fn gallery(version: &str) -> Output {
+    Command::new(folder().join("gallery")).arg(version).output().expect("examples/gallery runs")
 }
 
 fn examples() -> Vec<Example> {
     let entries = std::fs::read_dir(folder()).expect("examples is there").map(|entry| entry.expect("an entry").path());
     let texts = entries.filter(|path| path.extension().is_some_and(|ending| ending == "txt"));
-    let examples = texts.map(|path| {
-        let made = made_bytes(&path);
-        assert!(made.status.success(), "{path:?}");
+    let kept = texts.map(|path| {
         let name = path.file_stem().expect("a name").to_string_lossy().into_owned();
-        Example { name, text: std::fs::read_to_string(&path).expect("a text"), file: made.stdout }
+        Example::of(name, std::fs::read_to_string(&path).expect("a text"))
     });
-    examples.collect()
+    let galleries = ["confined", "leaks"].map(|version| {
+        let written = gallery(version);
+        assert!(written.status.success(), "{version}");
+        Example::of(format!("gallery-{version}"), String::from_utf8(written.stdout).expect("a text"))
+    });
+    kept.chain(galleries).collect()
 }
 
-/// What the head states, as the program `verdict` would print it.
-fn stated(example: &Example) -> String {
-    let lines = example.text.lines().filter_map(|line| line.strip_prefix("# prints: "));
-    lines.map(|line| format!("{line}\n")).collect()
+fn prints_what_it_states<E: Edition>(example: &Example) {
+    let mut table = Table::<E>::new();
+    let answer = verdict(&example.file, &mut table);
+    let guest: String = table.guest().map(|label| format!(" {label}")).collect();
+    assert_eq!(format!("{answer}\nguest{guest}\n"), example.stated(), "{}", example.name);
+    let expected = match answer {
+        Answer::Leaks { label, guest, .. } => Answer::Refused(Refusal { number: 11, position: label.into(), guest: Some(guest) }),
+        _ => Answer::Accepted { count: 0 },
+    };
+    assert_eq!(check(&example.file, &table), expected, "{}", example.name);
+    assert_eq!(report_in(edition::<E>(), &example.file), example.stated(), "{}", example.name);
 }
 
 #[test]
-fn the_archive_prints_what_each_example_states() {
+fn each_example_prints_what_it_states() {
     for example in examples() {
-        let mut table = Table::new();
-        let answer = verdict(&example.file, &mut table);
-        let guest: String = table.guest().map(|label| format!(" {label}")).collect();
-        assert_eq!(format!("{answer}\nguest{guest}\n"), stated(&example), "{}", example.name);
-        let expected = match answer {
-            Answer::Leaks { label, guest, .. } => Answer::Refused(Refusal { number: 11, position: label.into(), guest: Some(guest) }),
-            _ => Answer::Accepted { count: 0 },
-        };
-        assert_eq!(check(&example.file, &table), expected, "{}", example.name);
+        prints_what_it_states::<Large>(&example);
+        if !example.is_large() {
+            prints_what_it_states::<Small>(&example);
+        }
     }
 }
 
+/// The newest host of request 13.
 #[test]
-fn the_second_implementation_prints_what_each_example_states() {
-    for example in examples() {
-        assert_eq!(report(&example.file), stated(&example), "{}", example.name);
+fn the_gallery_has_200_allocation_sites() {
+    for version in ["confined", "leaks"] {
+        let text = String::from_utf8(gallery(version).stdout).expect("a text");
+        assert_eq!(text.lines().filter(|line| line.starts_with("19 ")).count(), 200);
+        let answer = judged::<Small>(&bytes_of(&text).stdout).0;
+        assert!(matches!(answer, Answer::Refused(Refusal { number: 4, .. })), "the small edition reads {version}: {answer}");
+    }
+    for version in ["", "large"] {
+        let written = gallery(version);
+        assert!(!written.status.success() && written.stdout.is_empty());
     }
 }
 
@@ -81,9 +137,9 @@ fn each_line_is_one_record() {
             }
             let end = before + bytes.len();
             // A prefix that ends with a whole record is refused for nothing but a function record that is still to come.
-            let refusal = read(&example.file[..end]).err();
+            let refusal = read_in(example.edition(), &example.file[..end]).err();
             assert!(refusal.is_none_or(|r| r.number == 7), "{}: {line}", example.name);
-            let cut = read(&example.file[..end - 1]).expect_err("a cut record");
+            let cut = read_in(example.edition(), &example.file[..end - 1]).expect_err("a cut record");
             assert_eq!((cut.number, cut.position), (2, before), "{}: {line}", example.name);
             before = end;
         }
@@ -94,34 +150,30 @@ fn each_line_is_one_record() {
 #[test]
 fn walks_stay_within_the_table_of_each_example() {
     for example in examples() {
-        let program = read(&example.file).expect("readable");
-        let mut table = Table::new();
-        verdict(&example.file, &mut table);
-        witnessed(&program, &table, 0..50, 2_000).unwrap_or_else(|violation| panic!("{}: {violation}", example.name));
+        let program = read_in(example.edition(), &example.file).expect("readable");
+        witnessed(&program, &example.judged().1, 0..50, 2_000).unwrap_or_else(|violation| panic!("{}: {violation}", example.name));
     }
 }
 
-/// The leak of `adsafe-leaks` takes more steps in a row than random walks find, and the alarm of `wrapper-shared` is false.
+/// The leaks of `adsafe-leaks` and `gallery-leaks` take more steps in a row than random walks find, and the alarm of `wrapper-shared` is false.
 #[test]
 fn walks_come_to_hold_what_the_short_examples_leak() {
     let short = ["journal-leaks", "logger-leaks", "site-shared"];
     for example in examples().iter().filter(|example| short.contains(&example.name.as_str())) {
-        let program = read(&example.file).expect("readable");
-        let mut table = Table::new();
-        let Answer::Leaks { label, .. } = verdict(&example.file, &mut table) else { panic!("{} leaks", example.name) };
+        let program = read_in(example.edition(), &example.file).expect("readable");
+        let (Answer::Leaks { label, .. }, table) = example.judged() else { panic!("{} leaks", example.name) };
         let seen = witnessed(&program, &table, 0..50, 2_000).expect("within the table");
-        assert!(seen[1] >> label & 1 == 1, "{}", example.name);
+        assert!(example.edition().row(&seen, 1).has(label), "{}", example.name);
     }
 }
 
 /// The verdict on an example with one record changed.
-fn changed_verdict(name: &str, record: &str, changed: &str) -> Answer {
-    let examples = examples();
+fn changed_verdict(examples: &[Example], name: &str, record: &str, changed: &str) -> Answer {
     let example = examples.iter().find(|example| example.name == name).expect("an example");
     let lines = example.text.lines().map(|line| if line.split('#').next().expect("a part").trim() == record { changed } else { line });
     let text = lines.collect::<Vec<_>>().join("\n");
     assert!(text.contains(changed), "{name} has the record {record}");
-    verdict(&bytes_of(&text).stdout, &mut Table::new())
+    Example::of(format!("{name} with {changed}"), text).judged().0
 }
 
 /// The confined examples hang on what their heads speak of.
@@ -136,16 +188,19 @@ fn one_changed_record_makes_a_confined_example_leak() {
         ("adsafe-confined", "18 8 7 130 15", "18 8 7 128 15"),                    // lib takes every name
         ("wrapper-apart", "17 7 10 8 6 11", "17 7 10 8 6 10"),                    // both loads share a wrapper
         ("site-apart", "21 0 4 6 0 0 0 0 0 0 0", "21 0 4 2 0 0 0 0 0 0 0"),       // both calls share a helper
+        ("gallery-confined", "21 8 0 6 0 5 0 0 0 0 0", "21 8 0 6 206 5 0 0 0 0 0"), // the listener has the journal as this
     ];
+    let examples = examples();
     for (name, record, changed) in changes {
-        let answer = changed_verdict(name, record, changed);
-        assert!(matches!(answer, Answer::Leaks { label: 5, .. }), "{name} with {changed}: {answer}");
+        let answer = changed_verdict(&examples, name, record, changed);
+        let journal = if name.starts_with("gallery") { 208 } else { 5 };
+        assert!(matches!(answer, Answer::Leaks { label, .. } if label == journal), "{name} with {changed}: {answer}");
     }
 }
 
 #[test]
 fn loads_from_what_stays_with_the_host_may_share_a_wrapper() {
-    let answer = changed_verdict("mint-confined", "17 18 31 14 5 33", "17 18 31 14 5 31");
+    let answer = changed_verdict(&examples(), "mint-confined", "17 18 31 14 5 33", "17 18 31 14 5 31");
     assert!(matches!(answer, Answer::Confined { .. }), "{answer}");
 }
 

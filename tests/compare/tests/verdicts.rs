@@ -1,113 +1,148 @@
-//! Verdict, label, count and every word of the table, on listed, random, structured, many-round, dense and damaged files, against the second solver.
+//! Verdict, label, count and every word of the table, on listed, random, structured, many-round, dense and damaged files, against the second solver, in
+//! both editions.
 
-use pezvoran::{verdict, Answer, Refusal, TABLE_WORDS};
-use second::generate;
-use second::solver::{self, Verdict};
-
-/// Stray words: what stands in the lent table before the call, with some words beyond the rows.
-fn stray(length: usize, seed: u64) -> Vec<u64> {
-    (0..length as u64).map(|i| (i + 1).wrapping_mul(seed | 1).wrapping_mul(0x9e37_79b9_7f4a_7c15)).collect()
-}
+use compare::{edition, second_verdict};
+use pezvoran::{verdict, Answer, Edition, Large, Small};
+use second::generate::{self, Named};
 
 #[derive(Default)]
 struct Tally {
     confined: usize,
     leaks: usize,
     refused: [usize; 16],
+    /// Tables, kept from call to call: what is lent, and what each implementation makes of it.
+    before: Vec<u64>,
+    ours: Vec<u64>,
+    theirs: Vec<u64>,
 }
 
 impl Tally {
-    fn compare(&mut self, name: &str, file: &[u8], length: usize, seed: u64) {
-        let before = stray(length, seed);
-        let (mut ours, mut theirs) = (before.clone(), before.clone());
-        let answer = verdict(file, &mut ours);
-        let expected = match solver::verdict(file, &mut theirs) {
-            Ok(a) => match a.verdict {
-                Verdict::Confined => {
-                    self.confined += 1;
-                    Answer::Confined { facts: a.facts }
-                }
-                Verdict::Leaks(label) => {
-                    self.leaks += 1;
-                    Answer::Leaks { label, guest: 3, facts: a.facts }
-                }
-            },
-            Err(r) => {
-                self.refused[r.number as usize] += 1;
-                assert!(theirs == before, "{name}: the second solver wrote at a refusal");
-                Answer::Refused(Refusal { number: r.number, position: r.position as u64, guest: None })
+    /// Lends tables with stray words, some of them beyond the rows.
+    fn compare<E: Edition>(&mut self, name: &str, file: &[u8], length: usize, seed: u64) {
+        let Tally { before, ours, theirs, .. } = self;
+        before.clear();
+        before.extend((1..=length as u64).map(|i| i.wrapping_mul(seed | 1).wrapping_mul(0x9e37_79b9_7f4a_7c15)));
+        ours.clone_from(before);
+        theirs.clone_from(before);
+        let answer = verdict::<E>(file, ours);
+        assert_eq!(answer, second_verdict::<E>(file, theirs), "{name}");
+        if let Some((word, (a, b))) = ours.iter().zip(theirs.iter()).enumerate().find(|(_, (a, b))| a != b) {
+            panic!("{name}: word {word} is {a:#x}, expected {b:#x}");
+        }
+        match answer {
+            Answer::Confined { .. } => self.confined += 1,
+            Answer::Leaks { .. } => self.leaks += 1,
+            Answer::Refused(refusal) => {
+                self.refused[refusal.number as usize] += 1;
+                assert!(ours == before, "{name}: a refusal changed a word");
             }
-        };
-        assert_eq!(answer, expected, "{name}");
-        for (row, (a, b)) in ours.iter().zip(&theirs).enumerate() {
-            assert!(a == b, "{name}: word {row} is {a:#x}, expected {b:#x}");
+            other => panic!("{name}: {other:?}"),
         }
     }
 
-    fn say(&self, what: &str) {
-        println!("{what}: {} confined, {} leak, refused by number {:?}", self.confined, self.leaks, &self.refused[1..12]);
+    fn say<E: Edition>(&self, what: &str) {
+        let edition = edition::<E>();
+        println!("{edition:?} {what}: {} confined, {} leak, refused by number {:?}", self.confined, self.leaks, &self.refused[1..12]);
     }
 }
 
-fn many(what: &str, count: u64, make: fn(u64) -> generate::Named) -> Tally {
+/// How many words the lent table has beyond its rows.
+const BEYOND: [usize; 7] = [0, 1, 2, 3, 4, 33, 99];
+
+fn many<E: Edition>(what: &str, count: u64, make: fn(second::Edition, u64) -> Named) -> Tally {
     let mut tally = Tally::default();
     for seed in 0..count {
-        let (name, file) = make(seed);
-        tally.compare(&name, &file, TABLE_WORDS + (seed % 4) as usize * 33, seed);
+        let (name, file) = make(edition::<E>(), seed);
+        tally.compare::<E>(&name, &file, E::TABLE_WORDS + BEYOND[seed as usize % BEYOND.len()], seed);
     }
-    tally.say(what);
+    tally.say::<E>(what);
     tally
+}
+
+/// A tenth of the files at least is confined, and a tenth leaks.
+fn fairly_shared(tally: Tally) {
+    let readable = tally.confined + tally.leaks;
+    assert!(10 * tally.confined > readable && 10 * tally.leaks > readable);
 }
 
 #[test]
 fn random_files_agree() {
-    let t = many("random", 3_000, generate::random);
-    assert!(t.confined > 300 && t.leaks > 300);
+    fairly_shared(many::<Small>("random", 3_000, generate::random_in));
+    fairly_shared(many::<Large>("random", 250, generate::random_in));
 }
 
 #[test]
 fn structured_files_agree() {
-    let t = many("structured", 3_000, generate::structured);
-    assert!(t.confined > 300 && t.leaks > 300);
+    fairly_shared(many::<Small>("structured", 3_000, generate::structured_in));
+    fairly_shared(many::<Large>("structured", 700, generate::structured_in));
+}
+
+/// Labels in all four words of a row, the last one among them.
+#[test]
+fn spread_labels_agree() {
+    fairly_shared(many::<Small>("spread", 300, generate::spread_in));
+    fairly_shared(many::<Large>("spread", 600, generate::spread_in));
 }
 
 #[test]
 fn files_of_many_rounds_agree() {
-    many("rounds", 300, generate::rounds);
+    many::<Small>("rounds", 300, generate::rounds_in);
+    many::<Large>("rounds", 300, generate::rounds_in);
+}
+
+/// Full files that need as many rounds as labels times variables.
+#[test]
+fn relays_agree() {
+    many::<Small>("relay", 10, generate::relay_in);
+    many::<Large>("relay", 10, generate::relay_in);
 }
 
 #[test]
 fn dense_full_files_agree() {
-    many("dense", 20, generate::dense);
+    many::<Small>("dense", 20, generate::dense_in);
+    many::<Large>("dense", 10, generate::dense_in);
 }
 
 #[test]
 fn damaged_files_agree() {
-    let t = many("damaged", 6_000, generate::damaged);
-    assert!(t.refused[1..8].iter().all(|&n| n > 0));
+    for tally in [many::<Small>("damaged", 6_000, generate::damaged_in), many::<Large>("damaged", 2_000, generate::damaged_in)] {
+        assert!(tally.refused[1..8].iter().all(|&n| n > 0));
+    }
 }
 
-#[test]
-fn edge_values_agree() {
-    many("edge mix", 6_000, generate::edge_mix);
+fn edge_values<E: Edition>(mixed: u64) {
+    many::<E>("edge mix", mixed, generate::edge_mix_in);
     let mut tally = Tally::default();
-    for (i, (name, file)) in generate::edges().iter().enumerate() {
-        tally.compare(name, file, TABLE_WORDS, i as u64);
+    for (i, (name, file)) in generate::edges_in(edition::<E>()).iter().enumerate() {
+        tally.compare::<E>(name, file, E::TABLE_WORDS, i as u64);
     }
-    for (i, (name, file)) in generate::sizes().iter().enumerate() {
-        tally.compare(name, file, TABLE_WORDS + 1, i as u64);
+    for (i, (name, file)) in generate::sizes_in(edition::<E>()).iter().enumerate() {
+        tally.compare::<E>(name, file, E::TABLE_WORDS + 1, i as u64);
     }
-    tally.say("edges and sizes");
+    tally.say::<E>("edges and sizes");
     assert!(tally.refused[9] > 0);
 }
 
 #[test]
-fn short_tables_are_refused_first() {
+fn edge_values_agree() {
+    edge_values::<Small>(6_000);
+    edge_values::<Large>(2_000);
+}
+
+fn short_tables<E: Edition>(lengths: &[usize]) {
     let mut tally = Tally::default();
-    for length in [0, 1, 2, 2_431] {
-        for (name, file) in [generate::random(1), generate::damaged(1), ("long".to_string(), vec![3; 40_000]), ("empty".to_string(), vec![])] {
-            tally.compare(&name, &file, length, 7);
+    let (random, damaged) = (generate::random_in(edition::<E>(), 1), generate::damaged_in(edition::<E>(), 1));
+    let files = [random, damaged, ("long".to_string(), vec![3; 40_000]), ("empty".to_string(), vec![])];
+    for &length in lengths {
+        for (name, file) in &files {
+            tally.compare::<E>(name, file, length, 7);
         }
     }
-    assert_eq!(tally.refused[8], 16);
+    assert_eq!(tally.refused[8], files.len() * lengths.len());
+}
+
+#[test]
+fn short_tables_are_refused_first() {
+    short_tables::<Small>(&[0, 1, 2, 2_431]);
+    short_tables::<Large>(&[0, 1, 4, 2_432, 8_960, 35_836, 35_839]);
 }

@@ -1,20 +1,21 @@
 //! Random walks over the second, independent model of the machine: every value met lies within the table that `verdict` left, and a confined file
-//! never puts a forbidden label in the bag.
+//! never puts a forbidden label in the bag; in both editions.
 
-use pezvoran::{verdict, Answer, TABLE_WORDS};
-use second::generate;
+use compare::edition;
+use pezvoran::{verdict, Answer, Edition, Large, Small};
+use second::generate::{self, Named};
 use second::machine::walk;
-use second::reader::read;
+use second::read_in;
 
-fn walks(what: &str, files: u64, steps: usize, make: fn(u64) -> generate::Named) {
+fn walks<E: Edition>(what: &str, files: u64, steps: usize, make: fn(second::Edition, u64) -> Named) {
     let mut walked = 0;
     for seed in 0..files {
-        let (name, file) = make(seed);
-        let mut table = vec![0; TABLE_WORDS];
-        if let Answer::Refused(_) = verdict(&file, &mut table) {
+        let (name, file) = make(edition::<E>(), seed);
+        let mut table = vec![0; E::TABLE_WORDS];
+        if let Answer::Refused(_) = verdict::<E>(&file, &mut table) {
             continue;
         }
-        let program = read(&file).expect("the verdict read it");
+        let program = read_in(edition::<E>(), &file).expect("the verdict read it");
         for round in 0..2 {
             if let Err(violation) = walk(&program, &table, seed * 2 + round, steps) {
                 panic!("{name}: {violation}");
@@ -22,15 +23,17 @@ fn walks(what: &str, files: u64, steps: usize, make: fn(u64) -> generate::Named)
             walked += 1;
         }
     }
-    println!("{what}: {walked} walks of {steps} steps");
+    println!("{:?} {what}: {walked} walks of {steps} steps", edition::<E>());
 }
 
 #[test]
 fn walks_over_structured_files_stay_within_the_table() {
-    walks("structured", 1_000, 2_000, generate::structured);
+    walks::<Small>("structured", 1_000, 2_000, generate::structured_in);
+    walks::<Large>("structured", 500, 2_000, generate::structured_in);
 }
 
 #[test]
 fn walks_over_random_files_stay_within_the_table() {
-    walks("random", 500, 1_000, generate::random);
+    walks::<Small>("random", 500, 1_000, generate::random_in);
+    walks::<Large>("random", 250, 1_000, generate::random_in);
 }

@@ -11,8 +11,10 @@ pub mod kit;
 pub mod object_gadgets;
 pub mod random;
 pub mod relabel;
+pub mod relay;
 pub mod rounds;
 pub mod small;
+pub mod spread;
 pub mod structured;
 pub mod writer;
 
@@ -21,16 +23,18 @@ pub use damaged::damaged_in;
 pub use dense::dense_in;
 pub use edges::{edge_mix_in, edges_in, sizes_in};
 pub use random::random_in;
+pub use relay::relay_in;
 pub use rounds::rounds_in;
 pub use small::{damaged, dense, edge_mix, edges, every, random, rounds, sizes, structured};
+pub use spread::spread_in;
 pub use structured::structured_in;
 
 /// A file with the name to call it by.
 pub type Named = (String, Vec<u8>);
 
-/// One file of every seeded generator but the dense one for the seed.
+/// One file of every seeded generator but those of full files for the seed.
 pub fn every_in(edition: Edition, seed: u64) -> Vec<Named> {
-    [random_in, structured_in, rounds_in, damaged_in, edge_mix_in].map(|make| make(edition, seed)).to_vec()
+    [random_in, structured_in, rounds_in, spread_in, damaged_in, edge_mix_in].map(|make| make(edition, seed)).to_vec()
 }
 
 /// The name of a seeded file.

@@ -1,13 +1,16 @@
 //! The generators in both editions: the same file for the same seed, readable where they promise it, and of every kind.
 
-use second::generate::{damaged_in, dense_in, every, every_in, random_in, rounds_in, structured_in, Named};
+use second::generate::{
+    damaged_in, dense_in, every, every_in, random_in, relay_in, rounds_in, spread_in, structured_in, Named,
+};
 use second::reader::{body_length, read_in};
 use second::solver::{solve, Verdict};
 use second::Edition;
 use std::time::{Duration, Instant};
 
 type Make = fn(Edition, u64) -> Named;
-const READABLE: [(&str, Make); 3] = [("random", random_in), ("structured", structured_in), ("rounds", rounds_in)];
+const READABLE: [(&str, Make); 4] =
+    [("random", random_in), ("structured", structured_in), ("rounds", rounds_in), ("spread", spread_in)];
 
 /// Files that are confined and that leak, among `seeds` seeds; the time of the slowest solution is printed.
 fn shares(edition: Edition, title: &str, make: Make, seeds: u64) -> (u64, u64) {
@@ -66,9 +69,25 @@ fn dense_files_are_full() {
     }
 }
 
+/// Every runner passes the whole course: the last of them, which is forbidden, is in the last variable.
+#[test]
+fn relays_are_full_and_run_to_their_end() {
+    for edition in Edition::BOTH {
+        shares(edition, "relay", relay_in, 10);
+        for seed in 0..10 {
+            let (name, file) = relay_in(edition, seed);
+            let program = read_in(edition, &file).expect("readable");
+            let reached = edition.row(&solve(&program).table, edition.s(255));
+            assert!(file.len() == 32_768 && reached.count() as usize > edition.labels() - 30, "{name}");
+            assert!(!(reached & program.forbidden).is_empty(), "{name}");
+        }
+    }
+}
+
 #[test]
 fn every_kind_is_written() {
-    for (edition, (title, make)) in Edition::BOTH.into_iter().flat_map(|e| [(e, READABLE[0]), (e, READABLE[1])]) {
+    let mixed = READABLE.into_iter().filter(|(title, _)| *title != "rounds");
+    for (edition, (title, make)) in Edition::BOTH.into_iter().flat_map(|e| mixed.clone().map(move |make| (e, make))) {
         let mut counts = [0usize; 27];
         for seed in 0..400 {
             let file = make(edition, seed).1;
@@ -103,7 +122,7 @@ fn labels_of_the_large_edition() {
             })
             .collect()
     };
-    for (title, make) in READABLE {
+    for (title, make) in READABLE.into_iter().filter(|(title, _)| *title != "spread") {
         let all = counts(make, 400);
         let many = all.iter().filter(|(labels, _)| *labels >= 200).count();
         let full = all.iter().filter(|(labels, bytes)| *labels >= 200 && *bytes == 32_768).count();
@@ -119,6 +138,29 @@ fn labels_of_the_large_edition() {
                 assert!(words.iter().all(|word| word.count_ones() > 0), "{title} {seed}");
             }
         }
+    }
+}
+
+/// The last label is declared, forbidden and told by the verdict of some files; files with eight labels of their own or more have some in
+/// every word of a row.
+#[test]
+fn labels_are_spread_over_every_word() {
+    for edition in Edition::BOTH {
+        let last = (edition.labels() - 1) as u8;
+        let (mut forbidden, mut told) = (0, 0);
+        for seed in 0..300 {
+            let (name, file) = spread_in(edition, seed);
+            let program = read_in(edition, &file).expect("readable");
+            let declared = program.declared_row();
+            if declared.count() >= 5 + 8 && !name.contains("random") {
+                assert!(declared.has(last), "{name}");
+                assert!(declared.words(edition).iter().all(|word| word.count_ones() > 1), "{name}");
+            }
+            forbidden += program.forbidden.has(last) as usize;
+            told += (solve(&program).verdict == Verdict::Leaks(last)) as usize;
+        }
+        println!("{edition:?}: label {last} is forbidden in {forbidden} files of 300 and told by {told}");
+        assert!(forbidden > 100 && told > 20);
     }
 }
 

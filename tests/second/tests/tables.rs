@@ -1,7 +1,7 @@
 //! Solver and check against one another in both editions: acceptance, refusals 10 and 11, leastness, and what the check passes over.
 
 use second::check::{check, check_in, check_program, one_use};
-use second::generate::{dense_in, random_in, rounds_in, structured_in, Named};
+use second::generate::{dense_in, random_in, rounds_in, spread_in, structured_in, Named};
 use second::prng::Prng;
 use second::program::Program;
 use second::reader::{read_in, Refusal};
@@ -11,7 +11,7 @@ use second::Edition;
 use std::ops::Range;
 
 fn files(edition: Edition, seeds: Range<u64>) -> impl Iterator<Item = Named> {
-    let makers = [random_in, structured_in, rounds_in];
+    let makers = [random_in, structured_in, rounds_in, spread_in];
     seeds.flat_map(move |seed| makers.map(|make| make(edition, seed)))
 }
 

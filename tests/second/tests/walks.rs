@@ -1,7 +1,7 @@
 //! Walks of the handset machine over generated files of both editions: no value outside the table, nothing forbidden in the bag.
 
 use second::generate::writer::Writer;
-use second::generate::{random_in, rounds_in, structured, structured_in, Named};
+use second::generate::{random_in, rounds_in, spread_in, structured, structured_in, Named};
 use second::machine::{walk, witnessed, Stats};
 use second::reader::{read, read_in};
 use second::row::Row;
@@ -55,6 +55,11 @@ fn structured_files() {
 fn rounds_files() {
     walk_all(Edition::Small, "rounds", rounds_in, 160, 2000);
     walk_all(Edition::Large, "rounds", rounds_in, 100, 2000);
+}
+
+#[test]
+fn spread_files() {
+    walk_all(Edition::Large, "spread", spread_in, 150, 2000);
 }
 
 /// Many more files and steps; run with --ignored.
