@@ -1,0 +1,90 @@
+//! The files of each group, with their names, in both editions.
+
+use super::filler::{Filler, FILLERS};
+use super::maze::{Maze, Order, Rest, ORDERS};
+use super::ordinary::{ordinary, ordinary_over};
+use super::worst::{worst, Shape, SHAPES};
+use super::{dense, LONGEST};
+use second::Edition;
+
+pub type Named = (String, Vec<u8>);
+
+/// In kB, for the groups that grow.
+const SIZES: [usize; 6] = [1, 2, 4, 8, 16, 32];
+
+pub fn ordinary_files(edition: Edition) -> Vec<Named> {
+    (1..=5).map(|seed| (format!("ordinary {seed}"), ordinary(edition, LONGEST, seed))).collect()
+}
+
+/// Ordinary files over the same few labels and variables; both editions read them.
+pub fn fixed() -> Vec<Named> {
+    SIZES.map(|size| (format!("{size} kB"), ordinary_over(20, 40, 1024 * size, 6))).to_vec()
+}
+
+/// Ordinary files with labels and variables that rise with the size.
+pub fn rising(edition: Edition) -> Vec<Named> {
+    SIZES.map(|size| (format!("{size} kB"), ordinary(edition, 1024 * size, 6))).to_vec()
+}
+
+pub fn dense_files(edition: Edition) -> Vec<Named> {
+    let named = |kind: u8, seed| (format!("dense, kind {kind}, {seed}"), dense::dense(edition, kind, seed));
+    dense::KINDS.into_iter().flat_map(|kind| [named(kind, 1), named(kind, 2)]).collect()
+}
+
+/// Every shape with mixed filler, and the longest course with every filler.
+pub fn worst_files(edition: Edition) -> Vec<Named> {
+    let mut files = Vec::new();
+    let mut put = |shape: Shape, filler: Filler, watching: bool, seed: u64| {
+        let name = format!("{shape:?}, {} {filler:?}, {seed}", if watching { "watching" } else { "idle" });
+        files.push((name.to_lowercase(), worst(edition, shape, filler, watching, seed)));
+    };
+    for shape in SHAPES {
+        put(shape, Filler::Mixed, true, 1);
+        put(shape, Filler::Mixed, true, 2);
+    }
+    put(Shape::Properties, Filler::Loads, true, 1);
+    put(Shape::Longest, Filler::Mixed, false, 1);
+    for filler in FILLERS {
+        put(Shape::Longest, filler, true, 1);
+        put(Shape::Longest, filler, false, 1);
+    }
+    files
+}
+
+/// Mazes of few long ways and of many short ones in every order, alone and with sightseers, and smaller ones.
+pub fn mazes(edition: Edition) -> Vec<Named> {
+    let of = |size, variables, ways, order, rest| named(Maze { size, variables, ways, order, rest }, edition);
+    let long = ORDERS.map(|order| of(LONGEST, 251, 18, order, Rest::Nothing));
+    let others = [
+        of(LONGEST, 160, 31, Order::Backwards, Rest::Nothing),
+        of(LONGEST, 251, 9, Order::Backwards, Rest::Sightseers),
+        of(LONGEST / 2, 100, 18, Order::Backwards, Rest::Nothing),
+        of(LONGEST / 4, 50, 10, Order::Backwards, Rest::Nothing),
+    ];
+    long.into_iter().chain(others).collect()
+}
+
+/// Lures beside ways of several numbers, orders and lengths.
+pub fn lures(edition: Edition) -> Vec<Named> {
+    let of = |size, variables, ways, order| named(Maze { size, variables, ways, order, rest: Rest::Lures }, edition);
+    let numbers = [2, 4, 8].map(|ways| of(LONGEST, 205, ways, Order::Backwards));
+    let others = [
+        of(LONGEST, 205, 8, Order::Forwards),
+        of(LONGEST, 205, 8, Order::Shuffled),
+        of(LONGEST, 100, 8, Order::Backwards),
+        of(LONGEST / 2, 100, 8, Order::Backwards),
+        of(LONGEST / 4, 20, 4, Order::Backwards),
+    ];
+    numbers.into_iter().chain(others).collect()
+}
+
+fn named(maze: Maze, edition: Edition) -> Named {
+    let rest = match maze.rest {
+        Rest::Nothing => "",
+        Rest::Sightseers => ", sightseers",
+        Rest::Lures => ", lures",
+    };
+    let Maze { size, variables, ways, order, .. } = maze;
+    let name = format!("{} kB, {variables} variables, {ways} ways {order:?}{rest}", size / 1024);
+    (name.to_lowercase(), maze.file(edition, 1))
+}
