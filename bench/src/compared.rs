@@ -14,8 +14,13 @@ const TIME: Duration = Duration::from_millis(100);
 pub const SHORT: Duration = Duration::from_millis(20);
 /// How often.
 pub const ROUNDS: usize = 5;
-/// The count of passes is given up after this long.
-const COUNTING: Duration = Duration::from_secs(20);
+/// The count of passes is given up after this long; in the large edition, where slow files need some 100,000, sooner.
+const fn counting(edition: Edition) -> Duration {
+    match edition {
+        Edition::Small => Duration::from_secs(20),
+        Edition::Large => Duration::from_secs(1),
+    }
+}
 
 pub struct Compared {
     pub name: String,
@@ -36,7 +41,7 @@ pub fn compared(edition: Edition, name: &str, file: &[u8], limit: Duration) -> C
     let program = read_in(edition, file).expect("the file is readable");
     let (answer, table) = hand::verdict(edition, file);
     assert_eq!(table, solver::solve(&program).table, "{name}: hand-written and second solver");
-    let counted = passes::count(&program, COUNTING);
+    let counted = passes::count(&program, counting(edition));
     if let Some((_, passed)) = &counted {
         assert_eq!(&table, passed, "{name}: hand-written solver and passes");
     }

@@ -6,6 +6,7 @@ use super::ordinary::{ordinary, ordinary_over};
 use super::worst::{worst, Shape, SHAPES};
 use super::{dense, LONGEST};
 use second::Edition;
+use std::ops::RangeInclusive;
 
 pub type Named = (String, Vec<u8>);
 
@@ -26,12 +27,20 @@ pub fn rising(edition: Edition) -> Vec<Named> {
     SIZES.map(|size| (format!("{size} kB"), ordinary(edition, 1024 * size, 6))).to_vec()
 }
 
-pub fn dense_files(edition: Edition) -> Vec<Named> {
-    let named = |kind: u8, seed| (format!("dense, kind {kind}, {seed}"), dense::dense(edition, kind, seed));
-    dense::KINDS.into_iter().flat_map(|kind| [named(kind, 1), named(kind, 2)]).collect()
+/// The seeds for each kind of dense and worst-case file: files of the large edition take longer.
+fn seeds(edition: Edition) -> RangeInclusive<u64> {
+    match edition {
+        Edition::Small => 1..=2,
+        Edition::Large => 1..=1,
+    }
 }
 
-/// Every shape with mixed filler, and the longest course with every filler.
+pub fn dense_files(edition: Edition) -> Vec<Named> {
+    let named = |kind: u8, seed| (format!("dense, kind {kind}, {seed}"), dense::dense(edition, kind, seed));
+    dense::KINDS.into_iter().flat_map(|kind| seeds(edition).map(move |seed| named(kind, seed))).collect()
+}
+
+/// Every shape with mixed filler, and the longest course with every filler, idle ones in the small edition alone.
 pub fn worst_files(edition: Edition) -> Vec<Named> {
     let mut files = Vec::new();
     let mut put = |shape: Shape, filler: Filler, watching: bool, seed: u64| {
@@ -39,14 +48,17 @@ pub fn worst_files(edition: Edition) -> Vec<Named> {
         files.push((name.to_lowercase(), worst(edition, shape, filler, watching, seed)));
     };
     for shape in SHAPES {
-        put(shape, Filler::Mixed, true, 1);
-        put(shape, Filler::Mixed, true, 2);
+        for seed in seeds(edition) {
+            put(shape, Filler::Mixed, true, seed);
+        }
     }
     put(Shape::Properties, Filler::Loads, true, 1);
     put(Shape::Longest, Filler::Mixed, false, 1);
     for filler in FILLERS {
         put(Shape::Longest, filler, true, 1);
-        put(Shape::Longest, filler, false, 1);
+        if edition == Edition::Small {
+            put(Shape::Longest, filler, false, 1);
+        }
     }
     files
 }

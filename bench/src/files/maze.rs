@@ -54,8 +54,12 @@ const NEXT: u8 = 31;
 
 /// Takes what the lures and sightseers load. The one of the sightseers holds every label.
 const SINK: u8 = 2;
-/// Two variables, each with half of the labels that the lures see.
+/// Two variables with the labels that the lures see: a few for the first lure under each key, the rest for all others, so that
+/// what is remembered of the first ones serves no other.
 const SEEN: [u8; 2] = [3, 4];
+const FEW: usize = 5;
+/// The keys of the lures: classes 1 to 7, all of the same names.
+const KEYS: std::ops::RangeInclusive<u8> = 129..=135;
 const FIRST_FREE: usize = 5;
 
 impl Maze {
@@ -71,11 +75,11 @@ impl Maze {
         let mut ways = self.loads(&mut r, &passed);
         ways.truncate((self.size - file.bytes.len()) / 6);
         let room = (self.size - file.bytes.len() - 6 * ways.len()) / 6;
-        for _ in 0..room {
+        for (i, key) in KEYS.cycle().enumerate().take(room) {
             match self.rest {
                 Rest::Nothing => &mut file,
                 Rest::Sightseers => file.load(0, SINK, r.pick(&passed), r.below(31) as u8, FRESH),
-                Rest::Lures => file.load(0, SINK, r.pick(&SEEN), r.between(129, 135) as u8, FRESH),
+                Rest::Lures => file.load(0, SINK, SEEN[(i >= KEYS.count()) as usize], key, FRESH),
             };
         }
         file.put(&ways.concat());
@@ -114,23 +118,25 @@ impl Maze {
         file
     }
 
-    /// The stores of each passed variable: in a row that the lures would read if they saw its label, and in one that they would
-    /// see if they read its name. Labels of the first half serve for the former, of the second half for the latter.
+    /// The stores of each passed variable: in a label that the lures do not see, under a name that they read, and in one that
+    /// they see, under another name. All further labels are seen too, `FEW` of them by the first lures alone.
     fn stored(self, runners: &[u8], passed: &[u8]) -> Writer {
         let mut file = Writer::new();
-        let mut next_holder = FIRST_FREE + passed.len();
-        for (names, labels) in self.names().iter().zip(runners.chunks(runners.len().div_ceil(2))) {
-            let seen = names[0] != self.ways as u8;
-            for (i, (group, &l)) in passed.chunks(names.len()).zip(labels).enumerate() {
-                let holder = u8::try_from(next_holder).expect("a variable is left");
-                next_holder += 1;
-                file.held(holder, l);
-                if seen {
-                    file.held(SEEN[i % 2], l);
-                }
-                for (&v, &n) in group.iter().zip(names) {
-                    file.store(0, holder, n, v);
-                }
+        let [read, not_read] = self.names();
+        let (unseen, seen) = runners.split_at(passed.len().div_ceil(read.len()));
+        let (few, many) = seen.split_at(FEW);
+        let boxes = passed.chunks(read.len()).zip(unseen).map(|(group, &l)| (group, l, &read));
+        let others = passed.chunks(not_read.len()).zip(many).map(|(group, &l)| (group, l, &not_read));
+        for (i, (group, l, names)) in boxes.chain(others).enumerate() {
+            let holder = u8::try_from(FIRST_FREE + passed.len() + i).expect("a variable is left");
+            file.held(holder, l);
+            for (&v, &n) in group.iter().zip(names) {
+                file.store(0, holder, n, v);
+            }
+        }
+        for (v, labels) in SEEN.into_iter().zip([few, many]) {
+            for &l in labels {
+                file.held(v, l);
             }
         }
         file
