@@ -65,38 +65,28 @@ pub fn worst_files(edition: Edition) -> Vec<Named> {
 
 /// Mazes of few long ways and of many short ones in every order, alone and with sightseers, and smaller ones.
 pub fn mazes(edition: Edition) -> Vec<Named> {
-    let of = |size, variables, ways, order, rest| named(Maze { size, variables, ways, order, rest }, edition);
-    let long = ORDERS.map(|order| of(LONGEST, 251, 18, order, Rest::Nothing));
-    let others = [
-        of(LONGEST, 160, 31, Order::Backwards, Rest::Nothing),
-        of(LONGEST, 251, 9, Order::Backwards, Rest::Sightseers),
-        of(LONGEST / 2, 100, 18, Order::Backwards, Rest::Nothing),
-        of(LONGEST / 4, 50, 10, Order::Backwards, Rest::Nothing),
-    ];
-    long.into_iter().chain(others).collect()
+    let alone = |variables, ways, order| maze(edition, LONGEST, variables, ways, order, Rest::Nothing);
+    let seen = |size, variables, ways| maze(edition, size, variables, ways, Order::Backwards, Rest::Sightseers);
+    let long = ORDERS.map(|order| alone(251, 18, order));
+    let short = [(160, 31), (100, 18), (50, 10)].map(|(variables, ways)| alone(variables, ways, Order::Backwards));
+    let full = [seen(LONGEST / 2, 100, 12), seen(LONGEST, 251, 9), seen(LONGEST, 160, 15)];
+    long.into_iter().chain(short).chain(full).collect()
 }
 
 /// Lures beside ways of several numbers, orders and lengths.
 pub fn lures(edition: Edition) -> Vec<Named> {
-    let of = |size, variables, ways, order| named(Maze { size, variables, ways, order, rest: Rest::Lures }, edition);
-    let numbers = [2, 4, 8].map(|ways| of(LONGEST, 205, ways, Order::Backwards));
-    let others = [
-        of(LONGEST, 205, 8, Order::Forwards),
-        of(LONGEST, 205, 8, Order::Shuffled),
-        of(LONGEST, 100, 8, Order::Backwards),
-        of(LONGEST / 2, 100, 8, Order::Backwards),
-        of(LONGEST / 4, 20, 4, Order::Backwards),
-    ];
-    numbers.into_iter().chain(others).collect()
+    let of = |size, variables, ways, order| maze(edition, size, variables, ways, order, Rest::Lures);
+    let orders = ORDERS.map(|order| of(LONGEST, 205, 8, order));
+    let others = [(LONGEST, 205, 4), (LONGEST, 100, 8), (LONGEST / 2, 100, 8), (LONGEST / 4, 20, 4)];
+    let others = others.map(|(size, variables, ways)| of(size, variables, ways, Order::Backwards));
+    orders.into_iter().chain(others).collect()
 }
 
-fn named(maze: Maze, edition: Edition) -> Named {
-    let rest = match maze.rest {
-        Rest::Nothing => "",
-        Rest::Sightseers => ", sightseers",
-        Rest::Lures => ", lures",
+fn maze(edition: Edition, size: usize, variables: usize, ways: usize, order: Order, rest: Rest) -> Named {
+    let filled = match rest {
+        Rest::Nothing => String::new(),
+        _ => format!(", {rest:?} up to {} kB", size / 1024),
     };
-    let Maze { size, variables, ways, order, .. } = maze;
-    let name = format!("{} kB, {variables} variables, {ways} ways {order:?}{rest}", size / 1024);
-    (name.to_lowercase(), maze.file(edition, 1))
+    let name = format!("{variables} variables, {ways} ways {order:?}{filled}");
+    (name.to_lowercase().replace("kb", "kB"), Maze { size, variables, ways, order, rest }.file(edition, 1))
 }

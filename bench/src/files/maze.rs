@@ -30,7 +30,7 @@ pub const ORDERS: [Order; 3] = [Order::Forwards, Order::Backwards, Order::Shuffl
 pub enum Rest {
     /// Nothing: the file is shorter.
     Nothing,
-    /// Loads that read the variables of the ways and find nothing new.
+    /// Calls with seven variables of the ways, of functions that know all labels.
     Sightseers,
     Lures,
 }
@@ -49,11 +49,15 @@ pub struct Maze {
 const FRESH: u8 = 5;
 /// Plain labels that find their ways, from here to the last of the edition.
 const FIRST: u8 = 6;
+/// With sightseers the first of them are functions instead.
+const FUNCTIONS: u8 = 8;
 /// The name under which a label holds the one that starts after it. The ways have the names from 0 up.
 const NEXT: u8 = 31;
 
-/// Takes what the lures and sightseers load. The one of the sightseers holds every label.
+/// Takes what the lures load, and what the sightseers hand over; then it holds every label that goes a way.
 const SINK: u8 = 2;
+/// Holds the functions.
+const CALLED: u8 = 3;
 /// Two variables with the labels that the lures see: a few for the first lure under each key, the rest for all others, so that
 /// what is remembered of the first ones serves no other.
 const SEEN: [u8; 2] = [3, 4];
@@ -65,7 +69,8 @@ const FIRST_FREE: usize = 5;
 impl Maze {
     pub fn file(self, edition: Edition, seed: u64) -> Vec<u8> {
         let mut r = Prng::new(seed.wrapping_mul(41).wrapping_add(3));
-        let mut runners: Vec<u8> = (FIRST..=*edition.declarable().end()).collect();
+        let first = if self.rest == Rest::Sightseers { FIRST + FUNCTIONS } else { FIRST };
+        let mut runners: Vec<u8> = (first..=*edition.declarable().end()).collect();
         r.shuffle(&mut runners);
         let passed: Vec<u8> = (FIRST_FREE..FIRST_FREE + self.variables).map(|v| v as u8).collect();
         let stored = if self.rest == Rest::Lures { self.stored(&runners, &passed) } else { Writer::new() };
@@ -74,13 +79,17 @@ impl Maze {
         file.put(&stored.bytes);
         let mut ways = self.loads(&mut r, &passed);
         ways.truncate((self.size - file.bytes.len()) / 6);
-        let room = (self.size - file.bytes.len() - 6 * ways.len()) / 6;
-        for (i, key) in KEYS.cycle().enumerate().take(room) {
-            match self.rest {
-                Rest::Nothing => &mut file,
-                Rest::Sightseers => file.load(0, SINK, r.pick(&passed), r.below(31) as u8, FRESH),
-                Rest::Lures => file.load(0, SINK, SEEN[(i >= KEYS.count()) as usize], key, FRESH),
-            };
+        let room = self.size - file.bytes.len() - 6 * ways.len();
+        match self.rest {
+            Rest::Nothing => {}
+            Rest::Sightseers => (0..room / 11).for_each(|_| {
+                let mut some = || r.pick(&passed);
+                let (this, six) = (some(), [some(), some(), some(), some(), some(), some()]);
+                file.call(0, 0, CALLED, this, six);
+            }),
+            Rest::Lures => KEYS.cycle().enumerate().take(room / 6).for_each(|(i, key)| {
+                file.load(0, SINK, SEEN[(i >= KEYS.count()) as usize], key, FRESH);
+            }),
         }
         file.put(&ways.concat());
         file.bytes
@@ -99,6 +108,10 @@ impl Maze {
         for &l in runners {
             file.label(l, 1, 0);
         }
+        let functions: Vec<u8> = (FIRST..FIRST + FUNCTIONS).filter(|f| !runners.contains(f)).collect();
+        for &f in &functions {
+            file.label(f, 2, 0);
+        }
         for &n in &self.names()[0] {
             file.name(n, 255);
         }
@@ -110,11 +123,16 @@ impl Maze {
         }
         for (i, &l) in runners.iter().enumerate() {
             file.property(l, (i % self.ways) as u8, l);
-            if self.rest == Rest::Sightseers {
+        }
+        file.held(passed[0], runners[0]);
+        for f in functions {
+            file.function(f, SINK, [SINK; 6]).held(CALLED, f);
+        }
+        if self.rest == Rest::Sightseers {
+            for &l in runners {
                 file.held(SINK, l);
             }
         }
-        file.held(passed[0], runners[0]);
         file
     }
 
