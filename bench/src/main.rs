@@ -40,13 +40,15 @@ fn processor() -> String {
 /// A table for each group of files of an edition.
 fn groups(edition: Edition, limit: Duration) {
     let section = |title: &str, files: Vec<Named>| section(edition, title, limit, files);
+    // Files of the large edition take longer.
+    let seeds = if edition == Edition::Small { 1..=2 } else { 1..=1 };
     section("ordinary full files", lists::ordinary_files(edition));
     if edition == Edition::Small {
         section("growth, ordinary files over 20 labels and 40 variables", lists::fixed());
     }
     section("growth, ordinary files, labels and variables rising with the size", lists::rising(edition));
-    section("dense files", lists::dense_files(edition));
-    section("worst-case files", lists::worst_files(edition));
+    section("dense files", lists::dense_files(edition, seeds.clone()));
+    section("worst-case files", lists::worst_files(edition, seeds));
     section("mazes", lists::mazes(edition));
     section("lures", lists::lures(edition));
     section("slowest files found by the search", slowest::read(edition));
@@ -71,11 +73,10 @@ fn capital(word: &str) -> String {
 fn widths(limit: Duration) {
     println!("## Width: files of the small edition in both\n");
     let e = Edition::Small;
-    let of_one = |files: Vec<Named>| files.into_iter().filter(|(name, _)| !name.ends_with(", 2"));
     let files = lists::ordinary_files(e)
         .into_iter()
-        .chain(of_one(lists::dense_files(e)))
-        .chain(of_one(lists::worst_files(e)))
+        .chain(lists::dense_files(e, 1..=1))
+        .chain(lists::worst_files(e, 1..=1))
         .chain(lists::mazes(e))
         .chain(lists::lures(e))
         .chain(slowest::read(e));

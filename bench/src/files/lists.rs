@@ -27,28 +27,21 @@ pub fn rising(edition: Edition) -> Vec<Named> {
     SIZES.map(|size| (format!("{size} kB"), ordinary(edition, 1024 * size, 6))).to_vec()
 }
 
-/// The seeds for each kind of dense and worst-case file: files of the large edition take longer.
-fn seeds(edition: Edition) -> RangeInclusive<u64> {
-    match edition {
-        Edition::Small => 1..=2,
-        Edition::Large => 1..=1,
-    }
-}
-
-pub fn dense_files(edition: Edition) -> Vec<Named> {
+/// Every kind of dense file, with each of the seeds.
+pub fn dense_files(edition: Edition, seeds: RangeInclusive<u64>) -> Vec<Named> {
     let named = |kind: u8, seed| (format!("dense, kind {kind}, {seed}"), dense::dense(edition, kind, seed));
-    dense::KINDS.into_iter().flat_map(|kind| seeds(edition).map(move |seed| named(kind, seed))).collect()
+    dense::KINDS.into_iter().flat_map(|kind| seeds.clone().map(move |seed| named(kind, seed))).collect()
 }
 
-/// Every shape with mixed filler, and the longest course with every filler, idle ones in the small edition alone.
-pub fn worst_files(edition: Edition) -> Vec<Named> {
+/// Every shape with mixed filler and each of the seeds, and the longest course with every filler, idle ones in the small edition alone.
+pub fn worst_files(edition: Edition, seeds: RangeInclusive<u64>) -> Vec<Named> {
     let mut files = Vec::new();
     let mut put = |shape: Shape, filler: Filler, watching: bool, seed: u64| {
         let name = format!("{shape:?}, {} {filler:?}, {seed}", if watching { "watching" } else { "idle" });
         files.push((name.to_lowercase(), worst(edition, shape, filler, watching, seed)));
     };
     for shape in SHAPES {
-        for seed in seeds(edition) {
+        for seed in seeds.clone() {
             put(shape, Filler::Mixed, true, seed);
         }
     }
@@ -68,7 +61,7 @@ pub fn mazes(edition: Edition) -> Vec<Named> {
     let alone = |variables, ways, order| maze(edition, LONGEST, variables, ways, order, Rest::Nothing);
     let seen = |size, variables, ways| maze(edition, size, variables, ways, Order::Backwards, Rest::Sightseers);
     let long = ORDERS.map(|order| alone(251, 18, order));
-    let short = [(160, 31), (100, 18), (50, 10)].map(|(variables, ways)| alone(variables, ways, Order::Backwards));
+    let short = [(160, 30), (100, 18), (50, 10)].map(|(variables, ways)| alone(variables, ways, Order::Backwards));
     let full = [seen(LONGEST / 2, 100, 12), seen(LONGEST, 251, 9), seen(LONGEST, 160, 15)];
     long.into_iter().chain(short).chain(full).collect()
 }

@@ -37,7 +37,7 @@ pub enum Rest {
 
 #[derive(Clone, Copy, PartialEq, Eq, Debug)]
 pub struct Maze {
-    /// The most bytes of the file; ways that do not fit are cut off.
+    /// The most bytes of the file, which the ways must fit in.
     pub size: usize,
     pub variables: usize,
     pub ways: usize,
@@ -77,9 +77,8 @@ impl Maze {
 
         let mut file = self.declared(&runners, &passed);
         file.put(&stored.bytes);
-        let mut ways = self.loads(&mut r, &passed);
-        ways.truncate((self.size - file.bytes.len()) / 6);
-        let room = self.size - file.bytes.len() - 6 * ways.len();
+        let ways = self.loads(&mut r, &passed).concat();
+        let room = self.size.checked_sub(file.bytes.len() + ways.len()).expect("the ways fit");
         match self.rest {
             Rest::Nothing => {}
             Rest::Sightseers => (0..room / 11).for_each(|_| {
@@ -91,7 +90,7 @@ impl Maze {
                 file.load(0, SINK, SEEN[(i >= KEYS.count()) as usize], key, FRESH);
             }),
         }
-        file.put(&ways.concat());
+        file.put(&ways);
         file.bytes
     }
 
