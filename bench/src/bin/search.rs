@@ -18,7 +18,7 @@ use std::time::{Duration, Instant};
 const LINES: usize = 5;
 const LOOKS: usize = 3;
 /// A file that takes longer is slow enough: the search does not start from it, and what it makes of others may end there.
-const LIMIT: Duration = Duration::from_secs(2);
+const LIMIT: Duration = Duration::from_secs(5);
 
 fn main() {
     let arguments: Vec<String> = std::env::args().skip(1).collect();
