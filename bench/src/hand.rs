@@ -51,6 +51,8 @@ struct Solver<'a, const N: usize> {
     // From each row of a kind, the rows of another that include it.
     variables_of_variable: Vec<Variables>,
     properties_of_variable: Vec<Names<N>>,
+    /// The names under which there are any of these.
+    names_of_variable: Vec<u32>,
     scopes_of_variable: Vec<Set<N>>,
     returns_of_variable: Vec<Set<N>>,
     variables_of_property: Vec<[Variables; 32]>,
@@ -118,6 +120,7 @@ impl<const N: usize> Solver<'_, N> {
             fresh_loads: vec![Vec::new(); labels],
             variables_of_variable: vec![Set::EMPTY; 256],
             properties_of_variable: vec![[Set::EMPTY; 32]; 256],
+            names_of_variable: vec![0; 256],
             scopes_of_variable: vec![Set::EMPTY; 256],
             returns_of_variable: vec![Set::EMPTY; 256],
             variables_of_property: vec![[Set::EMPTY; 32]; labels],

@@ -21,6 +21,7 @@ impl<const N: usize> Solver<'_, N> {
         }
         for (v, n) in self.program.named() {
             self.properties_of_variable[v as usize][n as usize].insert(0);
+            self.names_of_variable[v as usize] |= 1 << n;
             self.read(v, 0, n);
         }
         let names: Vec<u32> = (0..=255).map(|key| if key < 136 { self.names(key) } else { 0 }).collect();

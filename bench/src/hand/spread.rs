@@ -36,7 +36,7 @@ impl<const N: usize> Solver<'_, N> {
     fn variable(&mut self, v: u8, new: Set<N>) {
         let i = v as usize;
         self.add_all(self.variables_of_variable[i], 0, new);
-        for n in 0..32 {
+        for n in bits(self.names_of_variable[i]) {
             for l in self.properties_of_variable[i][n as usize].members() {
                 self.add(Self::h(l, n), new);
             }
@@ -67,7 +67,11 @@ impl<const N: usize> Solver<'_, N> {
 
     /// The named properties of all these labels include S(value).
     fn store(&mut self, on: Set<N>, names: u32, value: u8) {
+        if on.is_empty() {
+            return;
+        }
         let held = self.rows[Self::s(value)];
+        self.names_of_variable[value as usize] |= names;
         for n in bits(names) {
             let properties = &mut self.properties_of_variable[value as usize][n as usize];
             let added = on.minus(*properties);
