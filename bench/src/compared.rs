@@ -11,7 +11,7 @@ use std::time::Duration;
 /// The opponents are run again and again for this long.
 const TIME: Duration = Duration::from_millis(100);
 /// A file whose verdict is shorter than this is measured in turn with the opponents, again and again.
-pub const SHORT: Duration = Duration::from_millis(20);
+pub const SHORT: Duration = Duration::from_millis(100);
 /// How often.
 pub const ROUNDS: usize = 5;
 /// The count of passes is given up after this long; in the large edition, where slow files need some 100,000, sooner.
