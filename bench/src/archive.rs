@@ -1,9 +1,45 @@
-//! The archive's two operations, timed in a process of their own so that a slow call can be given up.
+//! The archive's operations in both editions, timed in a process of their own so that a slow call can be given up.
 
-use pezvoran::{Answer, TABLE_WORDS};
+use crate::edition;
+use pezvoran::Answer;
+use second::Edition;
 use std::io::{Read, Write};
 use std::process::{Command, Stdio};
 use std::time::{Duration, Instant};
+
+mod linked {
+    extern "C" {
+        pub fn verdict(file: *const u8, length: usize, table: *mut u64, words: usize) -> u64;
+        pub fn check(file: *const u8, length: usize, table: *const u64, words: usize) -> u64;
+        pub fn verdict_large(file: *const u8, length: usize, table: *mut u64, words: usize) -> u64;
+        pub fn check_large(file: *const u8, length: usize, table: *const u64, words: usize) -> u64;
+    }
+}
+
+/// The verdict of the edition; the word of its answer.
+pub fn verdict(edition: Edition, file: &[u8], table: &mut [u64]) -> u64 {
+    let operation = match edition {
+        Edition::Small => linked::verdict,
+        Edition::Large => linked::verdict_large,
+    };
+    // Any bytes and any table may be passed.
+    unsafe { operation(file.as_ptr(), file.len(), table.as_mut_ptr(), table.len()) }
+}
+
+/// The check of the edition; the word of its answer.
+pub fn check(edition: Edition, file: &[u8], table: &[u64]) -> u64 {
+    let operation = match edition {
+        Edition::Small => linked::check,
+        Edition::Large => linked::check_large,
+    };
+    // As above; the table is only read.
+    unsafe { operation(file.as_ptr(), file.len(), table.as_ptr(), table.len()) }
+}
+
+/// What such a word says.
+pub fn answer(word: u64) -> Answer {
+    Answer::of_word(word).expect("the archive answers by its contract")
+}
 
 /// What the archive made of a file.
 pub struct Verdict {
@@ -20,9 +56,14 @@ pub struct Check {
 
 /// Measures the archive on a file, and on its finished table, by the program `measure` beside this one; no verdict, or nothing
 /// at all, where that takes longer than the limit.
-pub fn measured(file: &[u8], finished: &[u64], limit: Duration) -> (Option<Check>, Option<Verdict>) {
+pub fn measured(edition: Edition, file: &[u8], finished: &[u64], limit: Duration) -> (Option<Check>, Option<Verdict>) {
     let program = std::env::current_exe().expect("this program has a path").with_file_name("measure");
-    let mut child = Command::new(program).stdin(Stdio::piped()).stdout(Stdio::piped()).spawn().expect("measure runs");
+    let mut child = Command::new(program)
+        .arg(edition::name(edition))
+        .stdin(Stdio::piped())
+        .stdout(Stdio::piped())
+        .spawn()
+        .expect("measure runs");
     let mut input: Vec<u8> = finished.iter().flat_map(|word| word.to_le_bytes()).collect();
     input.extend(file);
     child.stdin.take().expect("it is piped").write_all(&input).expect("measure reads");
@@ -42,11 +83,9 @@ pub fn measured(file: &[u8], finished: &[u64], limit: Duration) -> (Option<Check
     }
     child.wait().expect("it is a child of this program");
     let words = reading.join().expect("reading does not fail");
-    let pair = |i: usize| {
-        (Duration::from_nanos(words[i]), Answer::of_word(words[i + 1]).expect("the archive answers by its contract"))
-    };
+    let pair = |i: usize| (Duration::from_nanos(words[i]), answer(words[i + 1]));
     let check = (words.len() >= 2).then(|| pair(0)).map(|(time, answer)| Check { time, answer });
-    let verdict = (words.len() == 4 + TABLE_WORDS).then(|| pair(2));
+    let verdict = (words.len() == 4 + edition.table_words()).then(|| pair(2));
     (check, verdict.map(|(time, answer)| Verdict { time, answer, table: words[4..].to_vec() }))
 }
 

@@ -4,19 +4,23 @@ use crate::archive::{best, measured};
 use crate::table::{limited, milliseconds, ratio, thousands};
 use crate::{files, hand, passes};
 use pezvoran::{Answer, Refusal};
-use second::reader::read;
-use second::solver;
+use second::{read_in, solver, verdict_in, Edition};
 use std::hint::black_box;
 use std::time::Duration;
 
 /// The opponents are run again and again for this long.
-const TIME: Duration = Duration::from_millis(200);
+const TIME: Duration = Duration::from_millis(100);
 /// A file whose verdict is shorter than this is measured in turn with the opponents, again and again.
-const SHORT: Duration = Duration::from_millis(20);
+pub const SHORT: Duration = Duration::from_millis(100);
 /// How often.
-const ROUNDS: usize = 5;
-/// The count of passes is given up after this long.
-const COUNTING: Duration = Duration::from_secs(20);
+pub const ROUNDS: usize = 5;
+/// The count of passes is given up after this long; in the large edition, where slow files need some 100,000, sooner.
+const fn counting(edition: Edition) -> Duration {
+    match edition {
+        Edition::Small => Duration::from_secs(20),
+        Edition::Large => Duration::from_secs(1),
+    }
+}
 
 pub struct Compared {
     pub name: String,
@@ -32,30 +36,24 @@ pub struct Compared {
     pub second: Duration,
 }
 
-/// Runs all on a readable file; panics where two of them disagree.
-pub fn compared(name: &str, file: &[u8], limit: Duration) -> Compared {
-    let program = read(file).expect("the file is readable");
-    let (answer, table) = hand::verdict(file);
+/// Runs all on a file that the edition reads; panics where two of them disagree.
+pub fn compared(edition: Edition, name: &str, file: &[u8], limit: Duration) -> Compared {
+    let program = read_in(edition, file).expect("the file is readable");
+    let (answer, table) = hand::verdict(edition, file);
     assert_eq!(table, solver::solve(&program).table, "{name}: hand-written and second solver");
-    let counted = passes::count(&program, COUNTING);
+    let counted = passes::count(&program, counting(edition));
     if let Some((_, passed)) = &counted {
         assert_eq!(&table, passed, "{name}: hand-written solver and passes");
     }
-    let (check, verdict) = measured(file, &table, limit);
+    let (check, verdict) = measured(edition, file, &table, limit);
     if let Some(verdict) = &verdict {
         assert_eq!(answer, verdict.answer, "{name}: answers of hand-written solver and archive");
         assert_eq!(table, verdict.table, "{name}: tables of hand-written solver and archive");
     }
     if let Some(check) = &check {
-        let expected = match answer {
-            Answer::Leaks { label, guest, .. } => {
-                Answer::Refused(Refusal { number: 11, position: label.into(), guest: Some(guest) })
-            }
-            _ => Answer::Accepted { count: 0 },
-        };
-        assert_eq!(check.answer, expected, "{name}: check");
+        assert_eq!(check.answer, checked(answer), "{name}: check");
     }
-    let mut lent = vec![0; second::rows::ROWS];
+    let mut lent = vec![0; edition.table_words()];
     let mut compared = Compared {
         name: name.to_string(),
         bytes: file.len(),
@@ -71,18 +69,29 @@ pub fn compared(name: &str, file: &[u8], limit: Duration) -> Compared {
     let short = compared.verdict.is_some_and(|time| time < SHORT);
     for round in 0..if short { ROUNDS } else { 1 } {
         if round > 0 {
-            let (check, verdict) = measured(file, &compared.table, limit);
+            let (check, verdict) = measured(edition, file, &compared.table, limit);
             compared.verdict = least(compared.verdict, verdict.map(|verdict| verdict.time));
             compared.check = least(compared.check, check.map(|check| check.time));
         }
-        compared.hand = compared.hand.min(best(TIME, || drop(black_box(hand::verdict(file)))));
-        compared.second = compared.second.min(best(TIME, || drop(black_box(solver::verdict(file, &mut lent)))));
+        let hand = best(TIME, || drop(black_box(hand::verdict(edition, file))));
+        let second = best(TIME, || drop(black_box(verdict_in(edition, file, &mut lent))));
+        (compared.hand, compared.second) = (compared.hand.min(hand), compared.second.min(second));
     }
     compared
 }
 
+/// What the check says of a finished table on which the verdict gave this answer.
+pub fn checked(answer: Answer) -> Answer {
+    match answer {
+        Answer::Leaks { label, guest, .. } => {
+            Answer::Refused(Refusal { number: 11, position: label.into(), guest: Some(guest) })
+        }
+        _ => Answer::Accepted { count: 0 },
+    }
+}
+
 /// The shorter of two times.
-fn least(a: Option<Duration>, b: Option<Duration>) -> Option<Duration> {
+pub fn least(a: Option<Duration>, b: Option<Duration>) -> Option<Duration> {
     a.into_iter().chain(b).min()
 }
 

@@ -3,6 +3,8 @@
 pub mod course;
 pub mod dense;
 pub mod filler;
+pub mod lists;
+pub mod maze;
 pub mod ordinary;
 pub mod worst;
 

@@ -1,12 +1,15 @@
-//! Files that are slow to judge, and the solvers that are timed on them.
+//! Files that are slow to judge, and the solvers that are timed on them, in both editions.
 
 pub mod archive;
 pub mod clingo;
 pub mod compared;
+pub mod edition;
 pub mod files;
 pub mod hand;
 pub mod mutate;
 pub mod passes;
+pub mod sets;
 pub mod slowest;
 pub mod stack;
 pub mod table;
+pub mod width;

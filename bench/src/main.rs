@@ -2,15 +2,16 @@
 
 use bench::clingo::grounded;
 use bench::compared::{compared, Compared};
-use bench::files::filler::{Filler, FILLERS};
-use bench::files::ordinary::{ordinary, ordinary_over};
-use bench::files::worst::{worst, Shape, SHAPES};
+use bench::files::filler::Filler;
+use bench::files::lists::{self, Named};
+use bench::files::ordinary::ordinary;
+use bench::files::worst::{worst, Shape};
 use bench::files::{dense, LONGEST};
 use bench::stack::used_by;
-use bench::{slowest, table};
+use bench::width::{self, Width};
+use bench::{archive, edition, slowest, table};
+use second::Edition;
 use std::time::Duration;
-
-type Named = (String, Vec<u8>);
 
 const GRINGO_LIMIT: Duration = Duration::from_secs(60);
 
@@ -21,15 +22,10 @@ fn main() {
         "# Results\n\nPrinted by `bench/run {seconds}` on {}. See README.md for what the columns are.\n",
         processor()
     );
-    section("Ordinary full files", limit, (1..=5).map(|seed| (format!("ordinary {seed}"), ordinary(LONGEST, seed))));
-    let sizes = [1, 2, 4, 8, 16, 32];
-    let fixed = sizes.map(|size| (format!("{size} kB"), ordinary_over(20, 40, 1024 * size, 6)));
-    section("Growth: ordinary files over 20 labels and 40 variables", limit, fixed);
-    let rising = sizes.map(|size| (format!("{size} kB"), ordinary(1024 * size, 6)));
-    section("Growth: ordinary files, labels and variables rising with the size", limit, rising);
-    section("Dense files", limit, dense_files());
-    section("Worst-case files", limit, worst_files());
-    section("Slowest files found by the search", limit, slowest::read());
+    for edition in Edition::BOTH {
+        groups(edition, limit);
+    }
+    widths(limit);
     clingo();
     stack();
 }
@@ -41,51 +37,67 @@ fn processor() -> String {
     model.map_or("an unknown processor".to_string(), |(_, name)| name.to_string())
 }
 
+/// A table for each group of files of an edition.
+fn groups(edition: Edition, limit: Duration) {
+    let section = |title: &str, files: Vec<Named>| section(edition, title, limit, files);
+    // Files of the large edition take longer.
+    let seeds = if edition == Edition::Small { 1..=2 } else { 1..=1 };
+    section("ordinary full files", lists::ordinary_files(edition));
+    if edition == Edition::Small {
+        section("growth, ordinary files over 20 labels and 40 variables", lists::fixed());
+    }
+    section("growth, ordinary files, labels and variables rising with the size", lists::rising(edition));
+    section("dense files", lists::dense_files(edition, seeds.clone()));
+    section("worst-case files", lists::worst_files(edition, seeds));
+    section("mazes", lists::mazes(edition));
+    section("lures", lists::lures(edition));
+    section("slowest files found by the search", slowest::read(edition));
+}
+
 /// A table of files, after it is known that all solvers agree on them.
-fn section(title: &str, limit: Duration, files: impl IntoIterator<Item = Named>) {
-    println!("## {title}\n");
+fn section(edition: Edition, title: &str, limit: Duration, files: Vec<Named>) {
+    println!("## {} edition: {title}\n", capital(edition::name(edition)));
     let mut rows = vec![Compared::titles()];
     for (name, file) in files {
-        eprintln!("{name}");
-        rows.push(compared(&name, &file, limit).line(limit));
+        eprintln!("{}, {name}", edition::name(edition));
+        rows.push(compared(edition, &name, &file, limit).line(limit));
     }
     table::print(&rows);
 }
 
-fn dense_files() -> Vec<Named> {
-    let named = |kind: u8, seed| (format!("dense, kind {kind}, {seed}"), dense::dense(kind, seed));
-    dense::KINDS.into_iter().flat_map(|kind| [named(kind, 1), named(kind, 2)]).collect()
+fn capital(word: &str) -> String {
+    word[..1].to_uppercase() + &word[1..]
 }
 
-/// Every shape with mixed filler, and the longest course with every filler.
-fn worst_files() -> Vec<Named> {
-    let mut files = Vec::new();
-    let mut put = |shape: Shape, filler: Filler, watching: bool, seed: u64| {
-        let name = format!("{shape:?}, {} {filler:?}, {seed}", if watching { "watching" } else { "idle" });
-        files.push((name.to_lowercase(), worst(shape, filler, watching, seed)));
-    };
-    for shape in SHAPES {
-        put(shape, Filler::Mixed, true, 1);
-        put(shape, Filler::Mixed, true, 2);
+/// Full files of the small edition through the operations of both.
+fn widths(limit: Duration) {
+    println!("## Width: files of the small edition in both\n");
+    let e = Edition::Small;
+    let files = lists::ordinary_files(e)
+        .into_iter()
+        .chain(lists::dense_files(e, 1..=1))
+        .chain(lists::worst_files(e, 1..=1))
+        .chain(lists::mazes(e))
+        .chain(lists::lures(e))
+        .chain(slowest::read(e));
+    let mut rows = vec![Width::titles()];
+    for (name, file) in files {
+        eprintln!("width, {name}");
+        rows.push(width::measure(&name, &file, limit).line(limit));
     }
-    put(Shape::Properties, Filler::Loads, true, 1);
-    put(Shape::Longest, Filler::Mixed, false, 1);
-    for filler in FILLERS {
-        put(Shape::Longest, filler, true, 1);
-        put(Shape::Longest, filler, false, 1);
-    }
-    files
+    table::print(&rows);
 }
 
 /// The time of the grounder gringo on ordinary and dense files, beside that of the archive.
 fn clingo() {
     println!("## Clingo\n");
+    let e = Edition::Small;
     let mut rows = vec![["file", "facts", "verdict ms", "gringo ms", "gringo / verdict"].map(str::to_string).to_vec()];
-    let mut files: Vec<Named> = [1, 2].map(|seed| (format!("ordinary {seed}"), ordinary(LONGEST, seed))).to_vec();
-    files.extend([0, 21].map(|kind| (format!("dense, kind {kind}, 1"), dense::dense(kind, 1))));
+    let mut files: Vec<Named> = [1, 2].map(|seed| (format!("ordinary {seed}"), ordinary(e, LONGEST, seed))).to_vec();
+    files.extend([0, 21].map(|kind| (format!("dense, kind {kind}, 1"), dense::dense(e, kind, 1))));
     for (name, file) in files {
         eprintln!("{name}, gringo");
-        let compared = compared(&name, &file, GRINGO_LIMIT);
+        let compared = compared(e, &name, &file, GRINGO_LIMIT);
         let grounded = grounded(&second::reader::read(&file).expect("the file is readable"), GRINGO_LIMIT);
         if let Some((found, _)) = &grounded {
             assert_eq!(found, &compared.table, "{name}: gringo");
@@ -98,25 +110,31 @@ fn clingo() {
     table::print(&rows);
 }
 
-/// What both operations use of the stack, on a file that needs many passes too.
+/// What the four operations use of the stack, each edition on files of its own, one that needs many passes among them.
 fn stack() {
     println!("## Stack\n");
-    let mut rows = vec![["file", "verdict, bytes", "check, bytes"].map(str::to_string).to_vec()];
-    let files = [
-        ("empty", vec![]),
-        ("ordinary", ordinary(LONGEST, 1)),
-        ("dense", dense::dense(0, 1)),
-        ("worst case", worst(Shape::Longest, Filler::Mixed, true, 1)),
+    let titles = ["file", "verdict, bytes", "check, bytes", "verdict_large, bytes", "check_large, bytes"];
+    let mut rows = vec![titles.map(str::to_string).to_vec()];
+    let files: [(&str, fn(Edition) -> Vec<u8>); 4] = [
+        ("empty", |_| vec![]),
+        ("ordinary", |e| ordinary(e, LONGEST, 1)),
+        ("dense", |e| dense::dense(e, 0, 1)),
+        ("worst case", |e| worst(e, Shape::Longest, Filler::Mixed, true, 1)),
     ];
-    for (name, file) in files {
-        let mut lent = vec![0; pezvoran::TABLE_WORDS];
-        let verdict = used_by(|| {
-            pezvoran::verdict(&file, &mut lent);
-        });
-        let check = used_by(|| {
-            pezvoran::check(&file, &lent);
-        });
-        rows.push(vec![name.to_string(), table::thousands(verdict as u64), table::thousands(check as u64)]);
+    for (name, make) in files {
+        let mut row = vec![name.to_string()];
+        for edition in Edition::BOTH {
+            let file = make(edition);
+            let mut lent = vec![0; edition.table_words()];
+            let verdict = used_by(|| {
+                archive::verdict(edition, &file, &mut lent);
+            });
+            let check = used_by(|| {
+                archive::check(edition, &file, &lent);
+            });
+            row.extend([verdict, check].map(|bytes| table::thousands(bytes as u64)));
+        }
+        rows.push(row);
     }
     table::print(&rows);
 }

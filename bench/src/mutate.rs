@@ -2,7 +2,8 @@
 
 use crate::files::LONGEST;
 use second::prng::Prng;
-use second::reader::{body_length, read};
+use second::reader::body_length;
+use second::{read_in, Edition};
 use std::collections::HashMap;
 
 /// A file as its records.
@@ -20,14 +21,14 @@ pub fn split(file: &[u8]) -> Records {
     records
 }
 
-/// A readable file of full length made from one file with a few changes; `other` lends records.
-pub fn mutated(r: &mut Prng, file: &[u8], other: &[u8]) -> Vec<u8> {
+/// A file of full length, readable in the edition, made from one file with a few changes; `other` lends records.
+pub fn mutated(r: &mut Prng, edition: Edition, file: &[u8], other: &[u8]) -> Vec<u8> {
     let (mut records, lender) = (split(file), split(other));
     for _ in 0..r.between(1, 3) {
         let mut changed = records.clone();
         change(r, &mut changed, &lender);
         fit(r, &mut changed);
-        if read(&changed.concat()).is_ok() {
+        if read_in(edition, &changed.concat()).is_ok() {
             records = changed;
         }
     }

@@ -7,8 +7,8 @@
 
 mod records;
 
+use crate::sets::Set;
 use second::program::{Program, Record};
-use second::rows::{bit, h, labels, p, s, ROWS};
 use second::solver::chain_without_members;
 use second::Edition;
 use std::time::{Duration, Instant};
@@ -19,98 +19,111 @@ pub struct Count {
     pub work: u64,
 }
 
-struct Passes<'a> {
+struct Passes<'a, const N: usize> {
     program: &'a Program,
+    edition: Edition,
     names: Vec<Vec<u8>>,
-    functions: u64,
+    functions: Set<N>,
     /// For each variable the scopes that return it, and for each scope what it returns so far.
-    returned_by: Vec<u64>,
-    returned: Vec<u64>,
-    table: Vec<u64>,
+    returned_by: Vec<Set<N>>,
+    returned: Vec<Set<N>>,
+    table: Vec<Set<N>>,
     /// The pass in which each row last grew.
     grown: Vec<u64>,
     count: Count,
     grew: bool,
     /// Labels whose H, P or T rows or returns grew in this pass, and those of the last one.
-    now: Recent,
-    before: Recent,
+    now: Recent<N>,
+    before: Recent<N>,
     /// For each record the chains of its object as last computed, and what a prim has found there.
-    chains: Vec<u64>,
-    found: Vec<u64>,
+    chains: Vec<Set<N>>,
+    found: Vec<Set<N>>,
 }
 
 /// Labels of which a row of the kind has grown.
 #[derive(Clone, Copy, Default)]
-struct Recent {
-    properties: u64,
-    chains: u64,
-    throws: u64,
-    returns: u64,
+struct Recent<const N: usize> {
+    properties: Set<N>,
+    chains: Set<N>,
+    throws: Set<N>,
+    returns: Set<N>,
 }
 
-/// The passes until one adds nothing, that one included; none where counting takes longer than the limit.
+/// The passes until one adds nothing, that one included, and the table; none where counting takes longer than the limit.
 pub fn count(program: &Program, limit: Duration) -> Option<(Count, Vec<u64>)> {
-    let start = Instant::now();
-    let records: Vec<Record> = program.guest.iter().chain(&program.records).copied().collect();
-    let mut passes = Passes::new(program, records.len());
-    loop {
-        passes.count.passes += 1;
-        passes.before = std::mem::take(&mut passes.now);
-        passes.grew = false;
-        passes.count.work += records.len() as u64;
-        passes.declared();
-        for (i, &record) in records.iter().enumerate() {
-            passes.record(i, record);
-        }
-        if !passes.grew {
-            return Some((passes.count, passes.table));
-        }
-        if start.elapsed() > limit {
-            return None;
-        }
+    match program.edition {
+        Edition::Small => Passes::<1>::count(program, limit),
+        Edition::Large => Passes::<4>::count(program, limit),
     }
 }
 
-impl Passes<'_> {
-    fn new(program: &Program, records: usize) -> Passes<'_> {
-        let mut returned_by = vec![0; 256];
-        for record in program.all_records() {
-            if let Record::Return { k, value } = record {
-                returned_by[value as usize] |= bit(k);
+impl<const N: usize> Passes<'_, N> {
+    fn count(program: &Program, limit: Duration) -> Option<(Count, Vec<u64>)> {
+        let start = Instant::now();
+        let records: Vec<Record> = program.guest.iter().chain(&program.records).copied().collect();
+        let mut passes = Passes::<N>::new(program, records.len());
+        loop {
+            passes.count.passes += 1;
+            passes.before = std::mem::take(&mut passes.now);
+            passes.grew = false;
+            passes.count.work += records.len() as u64;
+            passes.declared();
+            for (i, &record) in records.iter().enumerate() {
+                passes.record(i, record);
+            }
+            if !passes.grew {
+                return Some((passes.count, passes.table.iter().flat_map(|row| row.0).collect()));
+            }
+            if start.elapsed() > limit {
+                return None;
             }
         }
+    }
+
+    fn new(program: &Program, records: usize) -> Passes<'_, N> {
+        let edition = program.edition;
+        let mut returned_by = vec![Set::EMPTY; 256];
+        for record in program.all_records() {
+            if let Record::Return { k, value } = record {
+                returned_by[value as usize].insert(k);
+            }
+        }
+        let functions = program.declared().map(|(l, _)| l).filter(|&l| program.function(l).is_some());
         Passes {
             program,
+            edition,
             names: (0..136).map(|key| program.names(key).collect()).collect(),
-            functions: (0..64).filter(|&l| program.function(l).is_some()).fold(0, |row, l| row | bit(l)),
+            functions: functions.collect(),
             returned_by,
-            returned: vec![0; 64],
-            table: vec![0; ROWS],
-            grown: vec![0; ROWS],
+            returned: vec![Set::EMPTY; edition.labels()],
+            table: vec![Set::EMPTY; edition.rows()],
+            grown: vec![0; edition.rows()],
             count: Count::default(),
             grew: false,
             now: Recent::default(),
             before: Recent::default(),
-            chains: vec![0; records],
-            found: vec![0; records],
+            chains: vec![Set::EMPTY; records],
+            found: vec![Set::EMPTY; records],
         }
     }
 
-    fn add(&mut self, row: usize, facts: u64) {
-        if facts & !self.table[row] == 0 || row == 0 {
+    fn add(&mut self, row: usize, facts: Set<N>) {
+        if facts.minus(self.table[row]).is_empty() || row == 0 {
             return;
         }
         self.table[row] |= facts;
         self.grown[row] = self.count.passes;
         self.grew = true;
-        match row {
-            0..256 => {
-                self.now.returns |= self.returned_by[row];
-                labels(self.returned_by[row]).for_each(|f| self.returned[f as usize] |= facts);
-            }
-            256..2304 => self.now.properties |= 1 << ((row - 256) / 32),
-            2304..2368 => self.now.chains |= 1 << (row - 2304),
-            _ => self.now.throws |= 1 << (row - 2368),
+        let (first_h, first_p, first_t) = (self.edition.h(0, 0), self.edition.p(0), self.edition.t(0));
+        if row < first_h {
+            self.now.returns |= self.returned_by[row];
+            self.returned_by[row].members().for_each(|f| self.returned[f as usize] |= facts);
+        } else if row < first_p {
+            self.now.properties.insert(((row - first_h) / 32) as u8);
+        } else if row < first_t {
+            self.now.chains.insert((row - first_p) as u8);
+        } else {
+            self.now.throws.insert((row - first_t) as u8);
         }
     }
 
@@ -124,17 +137,18 @@ impl Passes<'_> {
 
     /// The P line and the names of variables.
     fn declared(&mut self) {
+        let e = self.edition;
         for (l, label) in self.program.declared() {
-            self.add(p(l), chain_without_members(l, label.kind).words(Edition::Small)[0]);
-            self.add(p(l), self.chains_of(self.table[p(l)]));
+            self.add(e.p(l), chain_without_members(l, label.kind).labels().collect());
+            self.add(e.p(l), self.chains_of(self.table[e.p(l)]));
         }
         for (v, n) in self.program.named() {
-            self.include(s(v), h(0, n));
-            self.include(h(0, n), s(v));
+            self.include(e.s(v), e.h(0, n));
+            self.include(e.h(0, n), e.s(v));
         }
     }
 
-    fn chains_of(&self, holders: u64) -> u64 {
-        labels(holders).fold(0, |all, l| all | self.table[p(l)])
+    fn chains_of(&self, holders: Set<N>) -> Set<N> {
+        holders.members().fold(Set::EMPTY, |all, l| all | self.table[self.edition.p(l)])
     }
 }

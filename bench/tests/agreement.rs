@@ -1,26 +1,88 @@
-//! The hand-written solver and the counted passes give the tables of the second implementation, on its own seeded files.
+//! The archive, the hand-written solver, the second implementation and the counted passes agree in both editions.
 
-use bench::{hand, passes};
+use bench::compared::checked;
+use bench::edition::name;
+use bench::files::filler::Filler;
+use bench::files::maze::{Maze, Rest, ORDERS};
+use bench::files::worst::{worst, SHAPES};
+use bench::files::{dense, ordinary};
+use bench::{archive, hand, passes};
 use pezvoran::{Answer, Refusal};
-use second::generate::{dense, every};
-use second::reader::read;
+use second::generate::{dense_in, every_in};
 use second::solver::solve;
+use second::{read_in, Edition};
 use std::time::Duration;
 
-#[test]
-fn same_tables() {
-    let seeded = (0..200).flat_map(every).chain((0..8).map(dense));
-    for (name, file) in seeded {
-        let (answer, table) = hand::verdict(&file);
-        match read(&file) {
-            Ok(program) => {
-                assert_eq!(table, solve(&program).table, "{name}");
-                let (_, passed) = passes::count(&program, Duration::from_secs(600)).expect("it ends");
-                assert_eq!(table, passed, "{name}");
+/// Passes that take longer to count are not compared.
+const COUNTING: Duration = Duration::from_secs(2);
+
+/// All give the same answer, and the same table where the file is readable.
+fn agree(edition: Edition, file_name: &str, file: &[u8]) {
+    let title = format!("{}, {file_name}", name(edition));
+    let (answer, table) = hand::verdict(edition, file);
+    let mut lent = vec![u64::MAX; edition.table_words()];
+    assert_eq!(archive::answer(archive::verdict(edition, file, &mut lent)), answer, "{title}: verdict");
+    match read_in(edition, file) {
+        Ok(program) => {
+            assert_eq!(table, solve(&program).table, "{title}: second");
+            assert_eq!(table, lent, "{title}: table of the archive");
+            assert_eq!(archive::answer(archive::check(edition, file, &lent)), checked(answer), "{title}: check");
+            if let Some((_, passed)) = passes::count(&program, COUNTING) {
+                assert_eq!(table, passed, "{title}: passes");
             }
-            Err(refusal) => {
-                let refusal = Refusal { number: refusal.number, position: refusal.position as u64, guest: None };
-                assert_eq!(answer, Answer::Refused(refusal), "{name}");
+        }
+        Err(refusal) => {
+            let refusal = Refusal { number: refusal.number, position: refusal.position as u64, guest: None };
+            assert_eq!(answer, Answer::Refused(refusal), "{title}");
+        }
+    }
+}
+
+#[test]
+fn on_seeded_files() {
+    for edition in Edition::BOTH {
+        let seeded =
+            (0..200).flat_map(|seed| every_in(edition, seed)).chain((0..8).map(|seed| dense_in(edition, seed)));
+        for (name, file) in seeded {
+            agree(edition, &name, &file);
+        }
+    }
+}
+
+#[test]
+fn on_ordinary_files() {
+    for edition in Edition::BOTH {
+        for size in [1, 2, 4, 8, 16, 32] {
+            agree(edition, &format!("ordinary, {size} kB"), &ordinary::ordinary(edition, 1024 * size, size as u64));
+        }
+    }
+}
+
+#[test]
+fn on_dense_files() {
+    for edition in Edition::BOTH {
+        for kind in dense::KINDS {
+            agree(edition, &format!("dense, kind {kind}"), &dense::dense(edition, kind, 3));
+        }
+    }
+}
+
+#[test]
+fn on_courses() {
+    for edition in Edition::BOTH {
+        for shape in SHAPES {
+            agree(edition, &format!("{shape:?}"), &worst(edition, shape, Filler::Mixed, true, 3));
+        }
+    }
+}
+
+#[test]
+fn on_mazes_and_lures() {
+    for edition in Edition::BOTH {
+        for order in ORDERS {
+            for rest in [Rest::Nothing, Rest::Sightseers, Rest::Lures] {
+                let maze = Maze { size: 8192, variables: 30, ways: 5, order, rest };
+                agree(edition, &format!("{maze:?}"), &maze.file(edition, 3));
             }
         }
     }

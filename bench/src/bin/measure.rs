@@ -1,28 +1,24 @@
-//! Reads a finished table and then a file on standard input and times both operations of the archive on them. Writes words in
-//! little-endian order: nanoseconds and answer of the check, the same of the verdict, and the table that the verdict left.
+//! Times verdict and check of the archive, in the edition that the argument names, on what standard input has: a finished table
+//! and then a file. Writes words in little-endian order: nanoseconds and answer of the check, the same of the verdict, and the
+//! table that the verdict left.
 
-use bench::archive::{best, words};
-use pezvoran::TABLE_WORDS;
+use bench::archive::{best, check, verdict, words};
+use bench::edition::named;
 use std::io::{Read, Write};
 use std::time::Duration;
 
-const TIME: Duration = Duration::from_millis(200);
-
-extern "C" {
-    fn verdict(file: *const u8, length: usize, table: *mut u64, words: usize) -> u64;
-    fn check(file: *const u8, length: usize, table: *const u64, words: usize) -> u64;
-}
+const TIME: Duration = Duration::from_millis(100);
 
 fn main() {
+    let edition = std::env::args().nth(1).and_then(|name| named(&name)).expect("an edition");
     let mut input = Vec::new();
     std::io::stdin().read_to_end(&mut input).expect("standard input can be read");
-    let (table, file) = input.split_at(8 * TABLE_WORDS);
+    let (table, file) = input.split_at(8 * edition.table_words());
     let mut table = words(table);
     let mut answer = 0;
-    // Any bytes and any table may be passed.
-    let time = best(TIME, || answer = unsafe { check(file.as_ptr(), file.len(), table.as_ptr(), table.len()) });
+    let time = best(TIME, || answer = check(edition, file, &table));
     write(&[time.as_nanos() as u64, answer]);
-    let time = best(TIME, || answer = unsafe { verdict(file.as_ptr(), file.len(), table.as_mut_ptr(), table.len()) });
+    let time = best(TIME, || answer = verdict(edition, file, &mut table));
     write(&[time.as_nanos() as u64, answer]);
     write(&table);
 }

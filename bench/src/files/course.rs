@@ -8,6 +8,8 @@ use super::filler::{self, Filler};
 use super::LONGEST;
 use second::generate::writer::Writer;
 use second::prng::Prng;
+use second::Edition;
+use std::ops::RangeInclusive;
 
 /// Takes what the filler writes, and is read by no link.
 pub const SINK: u8 = 2;
@@ -25,7 +27,7 @@ pub const FRESH: u8 = 5;
 pub const DEEP: u8 = 6;
 /// The function whose property 3 holds every label; `DEEP` is made by it.
 const MAKER: u8 = 7;
-/// Functions, or plain labels where a shape asks for them, from here to 63.
+/// Functions, or plain labels where a shape asks for them, from here on.
 pub const FIRST: u8 = 8;
 
 /// The name under which a runner holds itself.
@@ -37,6 +39,8 @@ pub const PASSED: u8 = 129;
 
 pub struct Course {
     pub r: Prng,
+    /// The last label that the edition has.
+    pub last: u8,
     links: Vec<Vec<u8>>,
     start: Vec<Vec<u8>>,
     next_variable: u16,
@@ -51,9 +55,10 @@ pub struct Course {
 }
 
 impl Course {
-    pub fn new(seed: u64) -> Course {
+    pub fn new(edition: Edition, seed: u64) -> Course {
         let mut course = Course {
             r: Prng::new(seed.wrapping_mul(29).wrapping_add(7)),
+            last: *edition.declarable().end(),
             links: Vec::new(),
             start: Vec::new(),
             next_variable: FIRST_FREE,
@@ -65,6 +70,11 @@ impl Course {
         let first = course.variable();
         course.passed.push(first);
         course
+    }
+
+    /// The labels from `FIRST` on.
+    pub fn labels(&self) -> RangeInclusive<u8> {
+        FIRST..=self.last
     }
 
     /// A variable not used before.
@@ -104,7 +114,7 @@ impl Course {
 
     /// Those that run: functions, then labels 0 and 4, and last 2, which is on every function's chain and so has no next.
     fn runners(&self) -> Vec<u8> {
-        let functions = (FIRST..64).filter(|l| !self.plain.contains(l));
+        let functions = self.labels().filter(|l| !self.plain.contains(l));
         functions.chain([MAKER, 0, 4, 2]).collect()
     }
 
@@ -132,7 +142,7 @@ impl Course {
     fn declarations(&self) -> Writer {
         let mut file = Writer::new();
         file.label(FRESH, 1, 1).label(DEEP, 1, 0).label(MAKER, 2, 0);
-        for l in FIRST..64 {
+        for l in self.labels() {
             file.label(l, if self.plain.contains(&l) { 1 } else { 2 }, 0);
         }
         for n in 0..SELF {
@@ -142,17 +152,17 @@ impl Course {
             file.variable(v, 0, 255);
         }
         file.function(MAKER, SINK, [SINK; 6]);
-        for l in (FIRST..64).filter(|l| !self.plain.contains(l)) {
+        for l in self.labels().filter(|l| !self.plain.contains(l)) {
             let called = self.called.iter().find(|called| called.0 == l);
             file.function(l, SINK, called.map_or([SINK; 6], |called| called.1));
             if called.is_none() {
                 file.held(FUNCTIONS, l);
             }
         }
-        for l in (FIRST..64).filter(|l| !self.plain.contains(l) && !self.closed.contains(l)) {
+        for l in self.labels().filter(|l| !self.plain.contains(l) && !self.closed.contains(l)) {
             file.held(OPEN, l);
         }
-        for l in (5..64).filter(|&l| l != MAKER) {
+        for l in (5..=self.last).filter(|&l| l != MAKER) {
             file.property(MAKER, 3, l);
         }
         file.held(SINK, MAKER).new_object(0, SINK, SINK, SINK, DEEP, [0; 6]).held(DENSE, DEEP);

@@ -3,19 +3,33 @@
 use super::LONGEST;
 use second::generate::writer::Writer;
 use second::prng::Prng;
+use second::Edition;
 
-const PLAIN: (usize, usize) = (5, 44);
-const FUNCTIONS: (usize, usize) = (45, 63);
+/// The first label and the last of each type.
+struct Labels {
+    plain: (usize, usize),
+    functions: (usize, usize),
+}
+
+impl Labels {
+    /// All that the edition has, 19 of 64 functions.
+    fn of(edition: Edition) -> Labels {
+        let first_function = edition.labels() - 19 * edition.words();
+        Labels { plain: (5, first_function - 1), functions: (first_function, edition.labels() - 1) }
+    }
+}
 
 /// Kinds of statement a dense file can be full of; 0 stands for all of them.
 pub const KINDS: [u8; 6] = [0, 17, 18, 21, 22, 26];
 
 /// A full file, nine of ten statements of the kind.
-pub fn dense(kind: u8, seed: u64) -> Vec<u8> {
+pub fn dense(edition: Edition, kind: u8, seed: u64) -> Vec<u8> {
+    let labels = Labels::of(edition);
+    let (plain, functions) = (labels.plain, labels.functions);
     let mut r = Prng::new(seed.wrapping_mul(31).wrapping_add(kind as u64));
     let mut w = Writer::new();
-    for l in PLAIN.0..=FUNCTIONS.1 {
-        w.label(l as u8, if l < FUNCTIONS.0 { 1 } else { 2 }, 0);
+    for l in plain.0..=functions.1 {
+        w.label(l as u8, if l < functions.0 { 1 } else { 2 }, 0);
     }
     for n in 0..32 {
         w.name(n, r.byte() | 1);
@@ -23,19 +37,19 @@ pub fn dense(kind: u8, seed: u64) -> Vec<u8> {
     for v in 2..=255 {
         w.variable(v, 0, 255);
     }
-    for f in FUNCTIONS.0..=FUNCTIONS.1 {
+    for f in functions.0..=functions.1 {
         w.function(f as u8, variable(&mut r), [(); 6].map(|_| variable(&mut r)));
     }
-    for l in PLAIN.0..=FUNCTIONS.1 {
-        w.held(variable(&mut r), l as u8).throw(between(&mut r, FUNCTIONS), variable(&mut r));
-        w.new_object(0, 0, variable(&mut r), 2, PLAIN.0.max(l.min(PLAIN.1)) as u8, [0; 6]);
+    for l in plain.0..=functions.1 {
+        w.held(variable(&mut r), l as u8).throw(between(&mut r, functions), variable(&mut r));
+        w.new_object(0, 0, variable(&mut r), 2, plain.0.max(l.min(plain.1)) as u8, [0; 6]);
     }
     for (v, l) in (2..=255).zip([0, 1, 2, 4].into_iter().cycle()) {
         w.held(v, l).grant(v);
     }
     while w.bytes.len() + 18 <= LONGEST {
         let kind = if kind == 0 || r.chance(1, 10) { r.between(16, 26) as u8 } else { kind };
-        statement(&mut r, &mut w, kind);
+        statement(&mut r, &mut w, &labels, kind);
     }
     w.fill(LONGEST);
     w.bytes
@@ -49,11 +63,11 @@ fn variable(r: &mut Prng) -> u8 {
     between(r, (2, 255))
 }
 
-fn statement(r: &mut Prng, w: &mut Writer, kind: u8) {
-    let k = if r.chance(1, 3) { 0 } else { between(r, FUNCTIONS) };
+fn statement(r: &mut Prng, w: &mut Writer, labels: &Labels, kind: u8) {
+    let k = if r.chance(1, 3) { 0 } else { between(r, labels.functions) };
     let key = if r.chance(1, 2) { 128 } else { between(r, (129, 135)) };
     let (a, b, c) = (variable(r), variable(r), variable(r));
-    let (plain, function) = (between(r, PLAIN), between(r, FUNCTIONS));
+    let (plain, function) = (between(r, labels.plain), between(r, labels.functions));
     let six = [(); 6].map(|_| variable(r));
     match kind {
         16 => w.copy(k, a, b),

@@ -1,6 +1,6 @@
 //! What fills the rest of a course's file: records that are expensive to visit and move no runner.
 
-use super::course::{Course, DEEP, DENSE, FIRST, FRESH, FUNCTIONS, OPEN, PASSED, SINK};
+use super::course::{Course, DEEP, DENSE, FRESH, FUNCTIONS, OPEN, PASSED, SINK};
 use second::generate::writer::Writer;
 
 #[derive(Clone, Copy, PartialEq, Eq, Debug)]
@@ -70,6 +70,6 @@ fn record(course: &mut Course, filler: Filler, watching: bool) -> Vec<u8> {
 /// A function that no link calls.
 fn uncalled(course: &mut Course) -> u8 {
     let free = |l: &u8| !course.plain.contains(l) && !course.called.iter().any(|called| called.0 == *l);
-    let all: Vec<u8> = (FIRST..64).filter(free).collect();
+    let all: Vec<u8> = course.labels().filter(free).collect();
     course.r.pick(&all)
 }

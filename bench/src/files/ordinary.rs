@@ -4,6 +4,7 @@
 
 use second::generate::writer::Writer;
 use second::prng::Prng;
+use second::Edition;
 
 /// The labels and variables of one part of the host.
 #[derive(Default)]
@@ -15,13 +16,14 @@ struct Part {
     own: Vec<(u8, u8)>,
 }
 
-/// A readable file of `size` bytes or just below; labels and variables grow with it.
-pub fn ordinary(size: usize, seed: u64) -> Vec<u8> {
-    ordinary_over((size / 500).clamp(5, 59) as u8, (size / 120).clamp(8, 254), size, seed)
+/// A readable file of `size` bytes or just below; labels and variables grow with it up to all that the edition has.
+pub fn ordinary(edition: Edition, size: usize, seed: u64) -> Vec<u8> {
+    let labels = (size / 500 * edition.words()).clamp(5, edition.labels() - 5);
+    ordinary_over(labels, (size / 120).clamp(8, 254), size, seed)
 }
 
 /// The same over so many labels and variables, whatever the size.
-pub fn ordinary_over(labels: u8, variables: usize, size: usize, seed: u64) -> Vec<u8> {
+pub fn ordinary_over(labels: usize, variables: usize, size: usize, seed: u64) -> Vec<u8> {
     let mut r = Prng::new(seed.wrapping_mul(37).wrapping_add(5));
     let mut w = Writer::new();
     let parts = declare(&mut r, &mut w, labels, variables);
@@ -53,9 +55,9 @@ pub fn ordinary_over(labels: u8, variables: usize, size: usize, seed: u64) -> Ve
 }
 
 /// Labels from 5, variables from 2 and function records, for both parts.
-fn declare(r: &mut Prng, w: &mut Writer, labels: u8, variables: usize) -> [Part; 2] {
+fn declare(r: &mut Prng, w: &mut Writer, labels: usize, variables: usize) -> [Part; 2] {
     let mut parts = [Part::default(), Part::default()];
-    for l in 5..5 + labels {
+    for l in (5..5 + labels).map(|l| l as u8) {
         let part = &mut parts[(l % 9 == 6 || l % 9 == 7 && labels < 12) as usize];
         let kind = if part.functions.len() < part.plain.len() { 2 } else { 1 };
         w.label(l, kind, (kind == 1 && r.chance(1, 20)) as u8);

@@ -2,6 +2,7 @@
 
 use super::course::{Course, FIRST, FRESH, PASSED, SELF, SINK};
 use super::filler::Filler;
+use second::Edition;
 
 #[derive(Clone, Copy, PartialEq, Eq, Debug)]
 pub enum Shape {
@@ -38,8 +39,8 @@ pub const SHAPES: [Shape; 9] = [
 ];
 
 /// A full file with a course of the shape; whatever variables the shape has no use for are passed by copies.
-pub fn worst(shape: Shape, filler: Filler, watching: bool, seed: u64) -> Vec<u8> {
-    let mut course = Course::new(seed);
+pub fn worst(edition: Edition, shape: Shape, filler: Filler, watching: bool, seed: u64) -> Vec<u8> {
+    let mut course = Course::new(edition, seed);
     match shape {
         Shape::Copies => {}
         Shape::Properties => properties(&mut course, 0, false),
@@ -66,8 +67,8 @@ fn properties(course: &mut Course, thrown: usize, by_chain: bool) {
         *step = Some(FIRST + i as u8);
     }
     let boxes = (course.left() - thrown).div_ceil(31);
-    let holders: Vec<u8> = (0..boxes as u8).map(|i| course.holder(63 - i)).collect();
-    course.closed = (0..boxes as u8).map(|i| 63 - i).collect();
+    course.closed = (0..boxes as u8).map(|i| course.last - i).collect();
+    let holders: Vec<u8> = course.closed.clone().into_iter().map(|l| course.holder(l)).collect();
     if by_chain {
         course.plain = course.closed.clone();
     }
@@ -81,7 +82,7 @@ fn properties(course: &mut Course, thrown: usize, by_chain: bool) {
             course.link(|w| w.catch(k, to));
         } else {
             let (object, name) = (holders[used / 30], (used % 30) as u8);
-            let (from_object, fresh) = if by_chain { (0, 63 - (used / 30) as u8) } else { (object, FRESH) };
+            let (from_object, fresh) = if by_chain { (0, course.closed[used / 30]) } else { (object, FRESH) };
             course.link(|w| w.store(0, object, name, from));
             course.link(|w| w.load(0, to, from_object, name, fresh));
             used += 1;
@@ -89,14 +90,14 @@ fn properties(course: &mut Course, thrown: usize, by_chain: bool) {
     }
 }
 
-/// Labels 63 down to 52 are made by functions 8 to 19, each with the one before as prototype, the first with the runner.
+/// The last labels, downwards, are made by the first functions, each with the one before as prototype, the first with the runner.
 fn prototypes(course: &mut Course) {
     const LENGTH: u8 = 12;
-    course.plain = (64 - LENGTH..64).collect();
+    course.plain = (course.last - (LENGTH - 1)..=course.last).collect();
     course.closed = (FIRST..FIRST + LENGTH).collect();
     let (from, to) = course.step();
     for i in 0..LENGTH {
-        let (maker, made) = (FIRST + i, 63 - i);
+        let (maker, made) = (FIRST + i, course.last - i);
         let holder = course.holder(maker);
         if i == 0 {
             course.link(|w| w.store(0, holder, 3, from));
@@ -105,19 +106,20 @@ fn prototypes(course: &mut Course) {
         }
         course.link(|w| w.new_object(0, 0, holder, SINK, made, [0; 6]));
     }
-    let last = course.holder(64 - LENGTH);
+    let last = course.holder(course.last - (LENGTH - 1));
     course.link(|w| w.load(0, to, last, SELF, FRESH));
 }
 
-/// Each function calls the one before; what the first throws reaches the last.
+/// Each of 56 functions calls the one before; what the first throws reaches the last.
 fn throws(course: &mut Course) {
+    const LAST: u8 = FIRST + 55;
     let (from, to) = course.step();
     course.link(|w| w.throw(FIRST, from));
-    for f in FIRST + 1..64 {
+    for f in FIRST + 1..=LAST {
         let before = course.holder(f - 1);
         course.link(|w| w.call(f, 0, before, 0, [0; 6]));
     }
-    course.link(|w| w.catch(63, to));
+    course.link(|w| w.catch(LAST, to));
 }
 
 /// Six steps for each call: the last argument is the first to move on, so that a visit moves a runner one step.
@@ -146,8 +148,8 @@ fn returns(course: &mut Course) {
 
 /// Through all passed properties of three functions at once.
 fn classes(course: &mut Course) {
-    course.closed = (FIRST..62).collect();
-    for three in (FIRST..62).collect::<Vec<u8>>().chunks(3) {
+    course.closed = (FIRST..=course.last - 2).collect();
+    for three in course.closed.clone().chunks(3) {
         let holder = course.variable();
         three.iter().for_each(|&f| course.at_start(|w| w.held(holder, f)));
         let (from, to) = course.step();

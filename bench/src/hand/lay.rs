@@ -1,28 +1,28 @@
 //! Lays the rules of a program: what holds from the start, inclusions known from the start, and what variables set off.
 
-use super::sets::insert;
-use super::{Call, Solver, RETURNED};
+use super::{Call, Solver};
+use crate::sets::Set;
 use second::program::{Record, Type, BAG};
-use second::rows::{h, p, s, t};
 
-impl Solver<'_> {
+impl<const N: usize> Solver<'_, N> {
     pub fn lay_all(&mut self) {
         for (l, label) in self.program.declared() {
             let by_type = match label.kind {
-                Type::Plain => 1 << 1,
-                Type::Function => 1 << 2,
-                Type::Array => 1 << 4,
+                Type::Plain => 1,
+                Type::Function => 2,
+                Type::Array => 4,
             };
-            let by_label = match l {
-                0 | 2 | 4 => 1 << 1,
-                3 => 1 << 1 | 1 << 2 | 1 << 4,
-                _ => 0,
+            let by_label: &[u8] = match l {
+                0 | 2 | 4 => &[1],
+                3 => &[1, 2, 4],
+                _ => &[],
             };
-            self.add(p(l), 1 << l | by_type | by_label);
+            self.add(Self::p(l), [l, by_type].into_iter().chain(by_label.iter().copied()).collect());
         }
         for (v, n) in self.program.named() {
-            self.properties_of_variable[v as usize][n as usize] |= 1;
-            self.read(v, 0, n as usize);
+            self.properties_of_variable[v as usize][n as usize].insert(0);
+            self.names_of_variable[v as usize] |= 1 << n;
+            self.read(v, 0, n);
         }
         let names: Vec<u32> = (0..=255).map(|key| if key < 136 { self.names(key) } else { 0 }).collect();
         for record in self.program.all_records() {
@@ -40,11 +40,11 @@ impl Solver<'_> {
                 self.copy(v, BAG);
                 self.copy(BAG, v);
             }
-            Record::Property { l, n, x } => self.add(h(l, n), 1 << x),
-            Record::Held { v, l } => self.add(s(v), 1 << l),
+            Record::Property { l, n, x } => self.add(Self::h(l, n), Set::of(x)),
+            Record::Held { v, l } => self.add(Self::s(v), Set::of(l)),
             Record::Copy { y, source, .. } => self.copy(source, y),
             Record::Load { y, object, key, w, .. } => {
-                self.add(s(object), 1 << w);
+                self.add(Self::s(object), Set::of(w));
                 if object == 0 {
                     self.fresh_loads[w as usize].push((y, names[key as usize]));
                 } else {
@@ -54,56 +54,58 @@ impl Solver<'_> {
             Record::Store { object, key, value, .. } => {
                 self.uses[object as usize].stores.push((names[key as usize], value));
             }
-            Record::Make { y, l, .. } => self.add(s(y), 1 << l),
+            Record::Make { y, l, .. } => self.add(Self::s(y), Set::of(l)),
             Record::MakeFunction { y, l, q, .. } => {
-                self.add(s(y), 1 << l);
-                self.add(h(l, 3), 1 << q);
+                self.add(Self::s(y), Set::of(l));
+                self.add(Self::h(l, 3), Set::of(q));
             }
             Record::Call { k, y, callee, this, args } => {
                 self.uses[callee as usize].calls.push(Call { k, y, this, args });
             }
             Record::New { k, y, callee, t, l, args } => {
-                self.add(s(t), 1 << l);
+                self.add(Self::s(t), Set::of(l));
                 self.copy(t, y);
-                self.uses[callee as usize].made |= 1 << l;
+                self.uses[callee as usize].made.insert(l);
                 self.uses[callee as usize].calls.push(Call { k, y, this: t, args });
             }
             Record::Return { k, value } => {
-                self.returns_of_variable[value as usize] |= 1 << k;
-                self.add(RETURNED + k as usize, self.rows[s(value)]);
+                self.returns_of_variable[value as usize].insert(k);
+                self.add(Self::RETURNED + k as usize, self.rows[Self::s(value)]);
             }
             Record::Throw { k, value } => {
-                self.scopes_of_variable[value as usize] |= 1 << k;
-                self.add(t(k), self.rows[s(value)]);
+                self.scopes_of_variable[value as usize].insert(k);
+                self.add(Self::t(k), self.rows[Self::s(value)]);
             }
             Record::Catch { k, y } => {
-                insert(&mut self.variables_of_scope[k as usize], y);
-                self.add(s(y), self.rows[t(k)]);
+                self.variables_of_scope[k as usize].insert(y);
+                self.add(Self::s(y), self.rows[Self::t(k)]);
             }
-            Record::Prim { k, object } => self.uses[object as usize].prims |= 1 << k,
+            Record::Prim { k, object } => {
+                self.uses[object as usize].prims.insert(k);
+            }
         }
     }
 
     /// S(y) includes S(source).
     pub fn copy(&mut self, source: u8, y: u8) {
-        if insert(&mut self.variables_of_variable[source as usize], y) {
-            self.add(s(y), self.rows[s(source)]);
+        if self.variables_of_variable[source as usize].insert(y) {
+            self.add(Self::s(y), self.rows[Self::s(source)]);
         }
     }
 
     /// S(y) includes H(m,n).
-    pub fn read(&mut self, y: u8, m: usize, n: usize) {
-        self.read_by_variable[y as usize][n] |= 1 << m;
-        insert(&mut self.variables_of_property[m][n], y);
-        self.add(s(y), self.rows[h(m as u8, n as u8)]);
+    pub fn read(&mut self, y: u8, m: u8, n: u8) {
+        self.read_by_variable[y as usize][n as usize].insert(m);
+        self.variables_of_property[m as usize][n as usize].insert(y);
+        self.add(Self::s(y), self.rows[Self::h(m, n)]);
     }
 
     /// T(k) includes T(f) for all scopes k.
-    pub fn pass_throws(&mut self, f: usize, scopes: u64) {
-        let new = scopes & !self.scopes_of_scope[f];
-        self.scopes_of_scope[f] |= new;
-        for k in super::sets::bits(new) {
-            self.add(t(k as u8), self.rows[t(f as u8)]);
+    pub fn pass_throws(&mut self, f: u8, scopes: Set<N>) {
+        let new = scopes.minus(self.scopes_of_scope[f as usize]);
+        self.scopes_of_scope[f as usize] |= new;
+        for k in new.members() {
+            self.add(Self::t(k), self.rows[Self::t(f)]);
         }
     }
 }

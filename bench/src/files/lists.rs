@@ -1,0 +1,85 @@
+//! The files of each group, with their names, in both editions.
+
+use super::filler::{Filler, FILLERS};
+use super::maze::{Maze, Order, Rest, ORDERS};
+use super::ordinary::{ordinary, ordinary_over};
+use super::worst::{worst, Shape, SHAPES};
+use super::{dense, LONGEST};
+use second::Edition;
+use std::ops::RangeInclusive;
+
+pub type Named = (String, Vec<u8>);
+
+/// In kB, for the groups that grow.
+const SIZES: [usize; 6] = [1, 2, 4, 8, 16, 32];
+
+pub fn ordinary_files(edition: Edition) -> Vec<Named> {
+    (1..=5).map(|seed| (format!("ordinary {seed}"), ordinary(edition, LONGEST, seed))).collect()
+}
+
+/// Ordinary files over the same few labels and variables; both editions read them.
+pub fn fixed() -> Vec<Named> {
+    SIZES.map(|size| (format!("{size} kB"), ordinary_over(20, 40, 1024 * size, 6))).to_vec()
+}
+
+/// Ordinary files with labels and variables that rise with the size.
+pub fn rising(edition: Edition) -> Vec<Named> {
+    SIZES.map(|size| (format!("{size} kB"), ordinary(edition, 1024 * size, 6))).to_vec()
+}
+
+/// Every kind of dense file, with each of the seeds.
+pub fn dense_files(edition: Edition, seeds: RangeInclusive<u64>) -> Vec<Named> {
+    let named = |kind: u8, seed| (format!("dense, kind {kind}, {seed}"), dense::dense(edition, kind, seed));
+    dense::KINDS.into_iter().flat_map(|kind| seeds.clone().map(move |seed| named(kind, seed))).collect()
+}
+
+/// Every shape with mixed filler and each of the seeds, and the longest course with every filler, idle ones in the small edition alone.
+pub fn worst_files(edition: Edition, seeds: RangeInclusive<u64>) -> Vec<Named> {
+    let mut files = Vec::new();
+    let mut put = |shape: Shape, filler: Filler, watching: bool, seed: u64| {
+        let name = format!("{shape:?}, {} {filler:?}, {seed}", if watching { "watching" } else { "idle" });
+        files.push((name.to_lowercase(), worst(edition, shape, filler, watching, seed)));
+    };
+    for shape in SHAPES {
+        for seed in seeds.clone() {
+            put(shape, Filler::Mixed, true, seed);
+        }
+    }
+    put(Shape::Properties, Filler::Loads, true, 1);
+    put(Shape::Longest, Filler::Mixed, false, 1);
+    for filler in FILLERS {
+        put(Shape::Longest, filler, true, 1);
+        if edition == Edition::Small {
+            put(Shape::Longest, filler, false, 1);
+        }
+    }
+    files
+}
+
+/// Mazes of few long ways and of many short ones in every order, alone and with sightseers, and smaller ones.
+pub fn mazes(edition: Edition) -> Vec<Named> {
+    let alone = |variables, ways, order| maze(edition, LONGEST, variables, ways, order, Rest::Nothing);
+    let seen = |size, variables, ways| maze(edition, size, variables, ways, Order::Backwards, Rest::Sightseers);
+    let long = ORDERS.map(|order| alone(251, 18, order));
+    let short = [(160, 30), (100, 18), (50, 10)].map(|(variables, ways)| alone(variables, ways, Order::Backwards));
+    let full = [seen(LONGEST / 2, 100, 12), seen(LONGEST, 251, 9), seen(LONGEST, 160, 15)];
+    long.into_iter().chain(short).chain(full).collect()
+}
+
+/// Lures beside ways of several numbers, orders and lengths.
+pub fn lures(edition: Edition) -> Vec<Named> {
+    let of = |size, variables, ways, order| maze(edition, size, variables, ways, order, Rest::Lures);
+    let orders = ORDERS.map(|order| of(LONGEST, 205, 8, order));
+    let others = [(LONGEST, 205, 4), (LONGEST, 100, 8), (LONGEST / 2, 100, 8), (LONGEST / 4, 20, 4)];
+    let others = others.map(|(size, variables, ways)| of(size, variables, ways, Order::Backwards));
+    orders.into_iter().chain(others).collect()
+}
+
+fn maze(edition: Edition, size: usize, variables: usize, ways: usize, order: Order, rest: Rest) -> Named {
+    let filled = match rest {
+        Rest::Nothing => String::new(),
+        _ => format!(", {rest:?} up to {} kB", size / 1024),
+    };
+    let name = format!("{variables} variables, {ways} ways {order:?}{filled}");
+    (name.to_lowercase().replace("kb", "kB"), Maze { size, variables, ways, order, rest }.file(edition, 1))
+}
