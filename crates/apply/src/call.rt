@@ -9,7 +9,7 @@ ghost use Rattle.analysis.specs.Rules.{converting};
 ghost use Rattle.sets.specs.Value.{value};
 ghost use Rattle.uses.specs.Use.{Lent, tells, including, Used};
 ghost use Rattle.records.specs.Say.{inputAt};
-ghost use Rattle.host.specs.Lays.{Lays, functionsIn, Functions, FormalsOf, ReturnsOf};
+ghost use Rattle.host.specs.Lays.{Lays, functionsIn, Functions, FormalsOf, ReturnsOf, arrays};
 ghost use Rattle.shared.specs.Apply.{Applies};
 ghost use Rattle.apply.specs.Passing.{handing, handingAll, callBy, objectRule, newBy};
 use records::Inputs;
@@ -90,7 +90,7 @@ pub fn call(
     site: Site,
 ) -> bool
     requires { ⌜ Lent wide o (length (now t)) × (site .scope .0 < labels wide) ⌝ }
-    ensures { λ grew. ⌜ ((p : Program) → Lays wide p (now (host .entry)) → FormalsOf p (now (formals .entry)) → ReturnsOf p (record { first = now (first .entry); second = now (second .entry); third = now (third .entry); fourth = now (fourth .entry) }) → Applies wide o p (tells wide (callBy p site)) (now (t .entry)) (now (keeps .entry)) (now (t .exit)) (now (keeps .exit)) grew) ⌝ }
+    ensures { λ grew. ⌜ ((p : Program) → Lays wide p (now (host .entry)) → FormalsOf p (now (formals .entry)) → ReturnsOf p (arrays (now (first .entry)) (now (second .entry)) (now (third .entry)) (now (fourth .entry))) → Applies wide o p (tells wide (callBy p site)) (now (t .entry)) (now (keeps .entry)) (now (t .exit)) (now (keeps .exit)) grew) ⌝ }
 {
     let held = uses::held(t, wide, site.callee);
     let fs = functions_in(host, wide, held);
@@ -154,7 +154,7 @@ pub fn make_new(
     l: Label,
 ) -> bool
     requires { ⌜ Lent wide o (length (now t)) × (site .scope .0 < labels wide) × (l .0 < labels wide) ⌝ }
-    ensures { λ grew. ⌜ ((p : Program) → Lays wide p (now (host .entry)) → FormalsOf p (now (formals .entry)) → ReturnsOf p (record { first = now (first .entry); second = now (second .entry); third = now (third .entry); fourth = now (fourth .entry) }) → Applies wide o p (tells wide (newBy p site (l .0))) (now (t .entry)) (now (keeps .entry)) (now (t .exit)) (now (keeps .exit)) grew) ⌝ }
+    ensures { λ grew. ⌜ ((p : Program) → Lays wide p (now (host .entry)) → FormalsOf p (now (formals .entry)) → ReturnsOf p (arrays (now (first .entry)) (now (second .entry)) (now (third .entry)) (now (fourth .entry))) → Applies wide o p (tells wide (newBy p site (l .0))) (now (t .entry)) (now (keeps .entry)) (now (t .exit)) (now (keeps .exit)) grew) ⌝ }
 {
     let inputs = site.inputs;
     let made = make_object(

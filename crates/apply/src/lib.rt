@@ -5,7 +5,7 @@ ghost use Rattle.rows.specs.Edition.{labels};
 ghost use Rattle.program.specs.Program.{Program};
 ghost use Rattle.uses.specs.Use.{Lent, tells};
 ghost use Rattle.records.specs.Say.{ruleBy, InBounds};
-ghost use Rattle.host.specs.Lays.{Lays, FormalsOf, ReturnsOf};
+ghost use Rattle.host.specs.Lays.{Lays, FormalsOf, ReturnsOf, arrays};
 ghost use Rattle.shared.specs.Apply.{Applies};
 use crate::call::call;
 use crate::call::convert;
@@ -41,7 +41,7 @@ pub fn apply(
     s: Statement,
 ) -> bool
     requires { ⌜ Lent wide o (length (now t)) × InBounds (labels wide) s ⌝ }
-    ensures { λ grew. ⌜ ((p : Program) → Lays wide p (now (host .entry)) → FormalsOf p (now (formals .entry)) → ReturnsOf p (record { first = now (first .entry); second = now (second .entry); third = now (third .entry); fourth = now (fourth .entry) }) → Applies wide o p (tells wide (ruleBy p s)) (now (t .entry)) (now (keeps .entry)) (now (t .exit)) (now (keeps .exit)) grew) ⌝ }
+    ensures { λ grew. ⌜ ((p : Program) → Lays wide p (now (host .entry)) → FormalsOf p (now (formals .entry)) → ReturnsOf p (arrays (now (first .entry)) (now (second .entry)) (now (third .entry)) (now (fourth .entry))) → Applies wide o p (tells wide (ruleBy p s)) (now (t .entry)) (now (keeps .entry)) (now (t .exit)) (now (keeps .exit)) grew) ⌝ }
 {
     match s {
         Statement::Nothing => false,

@@ -9,6 +9,7 @@ ghost use Rattle.format.specs.Reading.{Readable};
 ghost use Rattle.program.specs.Program.{Program};
 ghost use Rattle.uses.specs.Use.{Lent, Since};
 ghost use Rattle.kept.specs.Promise.{Remembers};
+ghost use Rattle.host.specs.Lays.{arrays};
 ghost use Rattle.passes.specs.Order.{Known};
 ghost use Rattle.search.specs.Begins.{Named};
 ghost use Rattle.solver.specs.Steps.{programIn, StepsFor};
@@ -40,7 +41,7 @@ fn use_at(
     at: usize,
 ) -> bool
     requires { ⌜ Lent wide 0 (length (now t)) × Readable (labels wide) (now file) × Named (labels wide) (now file) at ⌝ }
-    ensures { λ _. ⌜ (Known wide (programIn wide (now (file .entry))) (now (host .entry)) (now (types .entry)) (now (formals .entry)) (record { first = now (first .entry); second = now (second .entry); third = now (third .entry); fourth = now (fourth .entry) }) → StepsFor wide (now (file .entry)) (now (t .entry)) (now (keeps .entry)) (now (t .exit)) (now (keeps .exit))) ⌝ }
+    ensures { λ _. ⌜ (Known wide (programIn wide (now (file .entry))) (now (host .entry)) (now (types .entry)) (now (formals .entry)) (arrays (now (first .entry)) (now (second .entry)) (now (third .entry)) (now (fourth .entry))) → StepsFor wide (now (file .entry)) (now (t .entry)) (now (keeps .entry)) (now (t .exit)) (now (keeps .exit))) ⌝ }
     ensures { λ _. ⌜ length (now (t .exit)) ≡ length (now (t .entry)) ⌝ }
 {
     if at == LINES {
@@ -101,7 +102,7 @@ pub fn search_on(
     keeps: &mut [u64; 256],
 )
     requires { ⌜ Lent wide 0 (length (now t)) × Readable (labels wide) (now file) ⌝ }
-    ensures { λ _. ⌜ (Known wide (programIn wide (now (file .entry))) (now (host .entry)) (now (types .entry)) (now (formals .entry)) (record { first = now (first .entry); second = now (second .entry); third = now (third .entry); fourth = now (fourth .entry) }) → StepsFor wide (now (file .entry)) (now (t .entry)) (now (keeps .entry)) (now (t .exit)) (now (keeps .exit))) ⌝ }
+    ensures { λ _. ⌜ (Known wide (programIn wide (now (file .entry))) (now (host .entry)) (now (types .entry)) (now (formals .entry)) (arrays (now (first .entry)) (now (second .entry)) (now (third .entry)) (now (fourth .entry))) → StepsFor wide (now (file .entry)) (now (t .entry)) (now (keeps .entry)) (now (t .exit)) (now (keeps .exit))) ⌝ }
     ensures { λ _. ⌜ (go ≡ false → now (t .exit) ≡ now (t .entry)) ⌝ }
 {
     if !go {
