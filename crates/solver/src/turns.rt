@@ -11,10 +11,10 @@ ghost use Rattle.uses.specs.Use.{Lent, Since};
 ghost use Rattle.kept.specs.Promise.{Remembers};
 ghost use Rattle.host.specs.Lays.{arrays};
 ghost use Rattle.passes.specs.Order.{Known};
-ghost use Rattle.search.specs.Begins.{Named};
+ghost use Rattle.indexing.specs.Begins.{Named};
 ghost use Rattle.solver.specs.Steps.{programIn, StepsFor};
-use search::notes::END;
-use search::notes::LINES;
+use indexing::notes::END;
+use indexing::notes::LINES;
 
 // The unions are forgotten where something grew.
 fn forget_if(grew: bool, keeps: &mut [u64; 256], wide: bool)
@@ -117,7 +117,7 @@ pub fn search_on(
     let mut queue = [0u16; 1024];
     let mut recent = [0u16; 512];
     let mut sizes = [0u16; 768];
-    search::index::index_file(
+    indexing::index::index_file(
         wide,
         file,
         host,
@@ -146,7 +146,7 @@ pub fn search_on(
         );
         forget_if(grew, keeps, wide);
         let grown = grown_at(grew, at);
-        let to = search::ends::ends_read(
+        let to = linking::ends::ends_read(
             wide,
             t,
             file,
@@ -158,7 +158,7 @@ pub fn search_on(
             &notes,
             grown,
         );
-        search::links::note_grown(
+        linking::links::note_grown(
             wide,
             t,
             file,
