@@ -1,5 +1,1 @@
-pub mod Through
-pub mod Properties
-pub mod Calls
-pub mod Conversions
 pub mod Saying

@@ -1,30 +1,26 @@
-// One use of the rules of each statement, beside the names of their definitions (crate analysis): what the rule tells of the table at 0 is joined to the table
-// at o, in place or into a second table.
+// One use of the rules of each statement, by its variant (crates joins and lookups): what the rule tells of the table at 0 is joined to the table at o, in
+// place or into a second table.
 ghost use lib.ListN.{length};
 ghost use Rattle.rows.specs.Edition.{labels};
 ghost use Rattle.program.specs.Program.{Program};
 ghost use Rattle.uses.specs.Use.{Lent, tells};
 ghost use Rattle.records.specs.Say.{ruleBy, InBounds};
-ghost use Rattle.host.specs.Lays.{Lays, FormalsOf, ReturnsOf};
+ghost use Rattle.host.specs.Lays.{Lays, FormalsOf, ReturnsOf, arrays};
 ghost use Rattle.shared.specs.Apply.{Applies};
-use crate::call::call;
-use crate::call::convert;
-use crate::call::make_new;
-use crate::plain::catch;
-use crate::plain::copy;
-use crate::plain::give_label;
-use crate::plain::grant;
-use crate::plain::make_function;
-use crate::plain::name_variable;
-use crate::plain::set_property;
-use crate::plain::throw;
-use crate::property::load;
-use crate::property::store;
+use joins::catch;
+use joins::copy;
+use joins::give_label;
+use joins::grant;
+use joins::make_function;
+use joins::name_variable;
+use joins::set_property;
+use joins::throw;
+use lookups::call::call;
+use lookups::call::convert;
+use lookups::call::make_new;
+use lookups::property::load;
+use lookups::property::store;
 use records::Statement;
-
-pub mod call;
-pub mod plain;
-pub mod property;
 
 // One use of the rules of a statement.
 pub fn apply(
@@ -41,7 +37,7 @@ pub fn apply(
     s: Statement,
 ) -> bool
     requires { ⌜ Lent wide o (length (now t)) × InBounds (labels wide) s ⌝ }
-    ensures { λ grew. ⌜ ((p : Program) → Lays wide p (now (host .entry)) → FormalsOf p (now (formals .entry)) → ReturnsOf p (record { first = now (first .entry); second = now (second .entry); third = now (third .entry); fourth = now (fourth .entry) }) → Applies wide o p (tells wide (ruleBy p s)) (now (t .entry)) (now (keeps .entry)) (now (t .exit)) (now (keeps .exit)) grew) ⌝ }
+    ensures { λ grew. ⌜ ((p : Program) → Lays wide p (now (host .entry)) → FormalsOf p (now (formals .entry)) → ReturnsOf p (arrays (now (first .entry)) (now (second .entry)) (now (third .entry)) (now (fourth .entry))) → Applies wide o p (tells wide (ruleBy p s)) (now (t .entry)) (now (keeps .entry)) (now (t .exit)) (now (keeps .exit)) grew) ⌝ }
 {
     match s {
         Statement::Nothing => false,

@@ -33,6 +33,9 @@ pub record Returns : Type 0 where
   pub third : List ℕ
   pub fourth : List ℕ
 
+abbrev pub arrays : List ℕ → List ℕ → List ℕ → List ℕ → Returns
+arrays first second third fourth = record { first = first; second = second; third = third; fourth = fourth }
+
 -- the word for the variables from 64 * q up of the f-th function of an array
 abbrev pub returnedWord : List ℕ → ℕ → ℕ → ℕ
 returnedWord ws f q = getD ws (4 * f + q) 0

@@ -5,7 +5,7 @@ ghost use Rattle.sets.specs.Value.{value};
 ghost use Rattle.lent.specs.Table.{wordCount};
 ghost use Rattle.uses.specs.Use.{tableOf};
 ghost use Rattle.uses.specs.Gather.{Gathered};
-ghost use Rattle.host.specs.Lays.{returnsFor, handedBack, Handing};
+ghost use Rattle.host.specs.Lays.{returnsFor, handedBack, Handing, arrays};
 use rows::Label;
 use sets::Set;
 
@@ -33,7 +33,7 @@ fn hand(
     start: Set,
 ) -> Set
     requires { ⌜ wordCount wide ≤ length (now t) ⌝ }
-    ensures { λ r. ⌜ Handing (returnsFor (record { first = now (first .entry); second = now (second .entry); third = now (third .entry); fourth = now (fourth .entry) }) (f .0)) (f .0 % 64) (tableOf wide (now (t .entry))) (value wide start) (value wide r) ⌝ }
+    ensures { λ r. ⌜ Handing (returnsFor (arrays (now (first .entry)) (now (second .entry)) (now (third .entry)) (now (fourth .entry))) (f .0)) (f .0 % 64) (tableOf wide (now (t .entry))) (value wide start) (value wide r) ⌝ }
 {
     let l = f.0 as usize;
     if l < 64 {
@@ -59,7 +59,7 @@ pub fn gather_handed(
     s: Set,
 ) -> Set
     requires { ⌜ wordCount wide ≤ length (now t) ⌝ }
-    ensures { λ r. ⌜ Gathered (handedBack (record { first = now (first .entry); second = now (second .entry); third = now (third .entry); fourth = now (fourth .entry) })) (tableOf wide (now (t .entry))) (tableOf wide (now (t .entry))) (value wide s) (value wide r) ⌝ }
+    ensures { λ r. ⌜ Gathered (handedBack (arrays (now (first .entry)) (now (second .entry)) (now (third .entry)) (now (fourth .entry)))) (tableOf wide (now (t .entry))) (tableOf wide (now (t .entry))) (value wide s) (value wide r) ⌝ }
 {
     let mut all = sets::none(wide);
     let mut rest = s;

@@ -7,9 +7,6 @@ use lib.ListN.{length, getD, set}
 use Rattle.words.specs.Words.{union}
 use Rattle.host.specs.Lays.{Returns, HandsBack}
 
-abbrev pub arrays : List ℕ → List ℕ → List ℕ → List ℕ → Returns
-arrays a b c d = record { first = a; second = b; third = c; fourth = d }
-
 -- four words for each of 64 functions
 abbrev pub Whole : Returns → Type 0
 Whole r = (length (r .first) ≡ 256) × (length (r .second) ≡ 256) × (length (r .third) ≡ 256) × (length (r .fourth) ≡ 256)

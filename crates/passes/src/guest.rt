@@ -9,7 +9,7 @@ ghost use Rattle.program.specs.Program.{Program};
 ghost use Rattle.analysis.specs.Rules.{ruleOf};
 ghost use Rattle.uses.specs.Use.{Lent, tells};
 ghost use Rattle.records.specs.Say.{ruleBy, InBounds};
-ghost use Rattle.host.specs.Lays.{Lays, FormalsOf, ReturnsOf};
+ghost use Rattle.host.specs.Lays.{Lays, FormalsOf, ReturnsOf, arrays};
 ghost use Rattle.shared.specs.Apply.{Applies};
 ghost use Rattle.passes.specs.Order.{guestStatement, theSite, guestRules};
 use records::Inputs;
@@ -77,7 +77,7 @@ pub fn guest(
     keeps: &mut [u64; 256],
 ) -> bool
     requires { ⌜ Lent wide o (length (now t)) ⌝ }
-    ensures { λ grew. ⌜ ((p : Program) → Lays wide p (now (host .entry)) → FormalsOf p (now (formals .entry)) → ReturnsOf p (record { first = now (first .entry); second = now (second .entry); third = now (third .entry); fourth = now (fourth .entry) }) → Applies wide o p (tells wide (guestRules p)) (now (t .entry)) (now (keeps .entry)) (now (t .exit)) (now (keeps .exit)) grew) ⌝ }
+    ensures { λ grew. ⌜ ((p : Program) → Lays wide p (now (host .entry)) → FormalsOf p (now (formals .entry)) → ReturnsOf p (arrays (now (first .entry)) (now (second .entry)) (now (third .entry)) (now (fourth .entry))) → Applies wide o p (tells wide (guestRules p)) (now (t .entry)) (now (keeps .entry)) (now (t .exit)) (now (keeps .exit)) grew) ⌝ }
 {
     let mut grew = false;
     let mut i: usize = 0;

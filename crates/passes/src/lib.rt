@@ -4,6 +4,7 @@ ghost use Rattle.rows.specs.Edition.{labels};
 ghost use Rattle.format.specs.Reading.{readFile, Readable};
 ghost use Rattle.program.specs.Program.{Program, programOf};
 ghost use Rattle.uses.specs.Use.{Lent, tells};
+ghost use Rattle.host.specs.Lays.{arrays};
 ghost use Rattle.shared.specs.Apply.{Applies};
 ghost use Rattle.passes.specs.Order.{Known, lineRules, PassOf};
 use crate::guest::guest;
@@ -33,7 +34,7 @@ pub fn lines(
     keeps: &mut [u64; 256],
 ) -> bool
     requires { ⌜ Lent wide o (length (now t)) ⌝ }
-    ensures { λ grew. ⌜ ((p : Program) → Known wide p (now (host .entry)) (now (types .entry)) (now (formals .entry)) (record { first = now (first .entry); second = now (second .entry); third = now (third .entry); fourth = now (fourth .entry) }) → Applies wide o p (tells wide (lineRules (labels wide) p)) (now (t .entry)) (now (keeps .entry)) (now (t .exit)) (now (keeps .exit)) grew) ⌝ }
+    ensures { λ grew. ⌜ ((p : Program) → Known wide p (now (host .entry)) (now (types .entry)) (now (formals .entry)) (arrays (now (first .entry)) (now (second .entry)) (now (third .entry)) (now (fourth .entry))) → Applies wide o p (tells wide (lineRules (labels wide) p)) (now (t .entry)) (now (keeps .entry)) (now (t .exit)) (now (keeps .exit)) grew) ⌝ }
 {
     let chains = chain_lines(t, o, wide, types, keeps);
     let prototypes = guest_line(t, o, wide, GUEST);
@@ -68,7 +69,7 @@ pub fn pass(
     file: &[u8],
 ) -> bool
     requires { ⌜ Lent wide o (length (now t)) × Readable (labels wide) (now file) ⌝ }
-    ensures { λ grew. ⌜ (Known wide (programOf (readFile (labels wide) (now (file .entry)))) (now (host .entry)) (now (types .entry)) (now (formals .entry)) (record { first = now (first .entry); second = now (second .entry); third = now (third .entry); fourth = now (fourth .entry) }) → PassOf wide o (now (file .entry)) (now (t .entry)) (now (keeps .entry)) (now (t .exit)) (now (keeps .exit)) grew) ⌝ }
+    ensures { λ grew. ⌜ (Known wide (programOf (readFile (labels wide) (now (file .entry)))) (now (host .entry)) (now (types .entry)) (now (formals .entry)) (arrays (now (first .entry)) (now (second .entry)) (now (third .entry)) (now (fourth .entry))) → PassOf wide o (now (file .entry)) (now (t .entry)) (now (keeps .entry)) (now (t .exit)) (now (keeps .exit)) grew) ⌝ }
 {
     let a = lines(
         t,

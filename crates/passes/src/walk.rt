@@ -4,7 +4,7 @@ ghost use Rattle.rows.specs.Edition.{labels};
 ghost use Rattle.format.specs.Reading.{Readable};
 ghost use Rattle.program.specs.Program.{Program};
 ghost use Rattle.uses.specs.Use.{Lent, tells};
-ghost use Rattle.host.specs.Lays.{Lays, FormalsOf, ReturnsOf};
+ghost use Rattle.host.specs.Lays.{Lays, FormalsOf, ReturnsOf, arrays};
 ghost use Rattle.shared.specs.Apply.{Applies};
 ghost use Rattle.passes.specs.Order.{recordRules};
 
@@ -23,7 +23,7 @@ pub fn host_rules(
     file: &[u8],
 ) -> bool
     requires { ⌜ Lent wide o (length (now t)) × Readable (labels wide) (now file) ⌝ }
-    ensures { λ grew. ⌜ ((p : Program) → Lays wide p (now (host .entry)) → FormalsOf p (now (formals .entry)) → ReturnsOf p (record { first = now (first .entry); second = now (second .entry); third = now (third .entry); fourth = now (fourth .entry) }) → Applies wide o p (tells wide (recordRules (labels wide) p (now (file .entry)))) (now (t .entry)) (now (keeps .entry)) (now (t .exit)) (now (keeps .exit)) grew) ⌝ }
+    ensures { λ grew. ⌜ ((p : Program) → Lays wide p (now (host .entry)) → FormalsOf p (now (formals .entry)) → ReturnsOf p (arrays (now (first .entry)) (now (second .entry)) (now (third .entry)) (now (fourth .entry))) → Applies wide o p (tells wide (recordRules (labels wide) p (now (file .entry)))) (now (t .entry)) (now (keeps .entry)) (now (t .exit)) (now (keeps .exit)) grew) ⌝ }
 {
     let mut grew = false;
     let mut at: usize = 0;

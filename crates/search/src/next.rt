@@ -1,69 +1,37 @@
 // The next record to apply: from the queue, else from the scan of the round.
-ghost use mathlib.Core.List.{List};
-ghost use Prim.Native.Nat.{ℕ, _≤_};
+ghost use Prim.Native.Nat.{_≤_};
 ghost use lib.ListN.{length};
 ghost use Rattle.rows.specs.Edition.{labels};
 ghost use Rattle.lent.specs.Table.{wordCount};
-ghost use Rattle.search.specs.Begins.{Begins, Named};
-use crate::notes::BITS;
-use crate::notes::CALLEES_GREW;
-use crate::notes::END;
-use crate::notes::ENDED;
-use crate::notes::FRESH;
-use crate::notes::FROM_QUEUE;
-use crate::notes::LABELS_GREW;
-use crate::notes::LINES;
-use crate::notes::LINES_DUE;
-use crate::notes::MARKS;
-use crate::notes::NAMED;
-use crate::notes::NAMES_GREW;
-use crate::notes::OBJECTS_GREW;
-use crate::notes::QUEUE_AT;
-use crate::notes::QUEUED;
-use crate::notes::SCOPES_GREW;
-use crate::notes::THROWN_GREW;
-use crate::notes::VARIABLES_GREW;
-use crate::notes::WORD;
-use crate::notes::long;
-use crate::notes::number;
-use crate::notes::place_of;
-use crate::notes::set_at;
-use crate::notes::word;
+ghost use Rattle.indexing.specs.Begins.{Begins, Named};
 use crate::wakes::wakes;
+use indexing::begins::confirmed;
+use indexing::begins::starts;
+use indexing::notes::BITS;
+use indexing::notes::CALLEES_GREW;
+use indexing::notes::END;
+use indexing::notes::ENDED;
+use indexing::notes::FRESH;
+use indexing::notes::FROM_QUEUE;
+use indexing::notes::LABELS_GREW;
+use indexing::notes::LINES;
+use indexing::notes::LINES_DUE;
+use indexing::notes::MARKS;
+use indexing::notes::NAMED;
+use indexing::notes::NAMES_GREW;
+use indexing::notes::OBJECTS_GREW;
+use indexing::notes::QUEUE_AT;
+use indexing::notes::QUEUED;
+use indexing::notes::SCOPES_GREW;
+use indexing::notes::THROWN_GREW;
+use indexing::notes::VARIABLES_GREW;
+use indexing::notes::WORD;
+use indexing::notes::long;
+use indexing::notes::number;
+use indexing::notes::place_of;
+use indexing::notes::set_at;
+use indexing::notes::word;
 use sets::Set;
-
-// Where records begin in the w-th 64 bytes.
-fn starts(low: &[u64; 256], high: &[u64; 256], w: usize) -> u64 {
-    if w < 256 {
-        return low[w];
-    }
-    if w < 512 {
-        return high[w - 256];
-    }
-    0
-}
-
-// The position itself where a record begins there, or the lines; else END.
-fn confirmed(low: &[u64; 256], high: &[u64; 256], at: usize) -> usize
-    ensures { λ r. ⌜ ((L : ℕ) (file : List ℕ) → Begins L file (now (low .entry)) (now (high .entry)) → Named L file r) ⌝ }
-{
-    if at == LINES {
-        return LINES;
-    }
-    if at < 16384 {
-        if words::has(low[at / 64], at % 64) == 1 {
-            return at;
-        }
-        return END;
-    }
-    if at < 32768 {
-        let q = at - 16384;
-        if words::has(high[q / 64], q % 64) == 1 {
-            return at;
-        }
-    }
-    END
-}
 
 // ---- the queue
 

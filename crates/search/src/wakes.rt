@@ -2,21 +2,21 @@
 ghost use Prim.Native.Nat.{_+_, _≤_};
 ghost use lib.ListN.{length};
 ghost use Rattle.lent.specs.Table.{wordCount};
-use crate::notes::CALLEES_GREW;
-use crate::notes::HANDED_GREW;
-use crate::notes::LABELS_GREW;
-use crate::notes::NAMES_GREW;
-use crate::notes::NEWS_GREW;
-use crate::notes::OBJECTS_GREW;
-use crate::notes::SCOPES_GREW;
-use crate::notes::THROWN_GREW;
-use crate::notes::VARIABLES_GREW;
-use crate::notes::has;
-use crate::notes::set_at;
-use crate::parts::byte;
-use crate::parts::held;
-use crate::parts::names_read;
-use crate::parts::thrown;
+use indexing::notes::CALLEES_GREW;
+use indexing::notes::HANDED_GREW;
+use indexing::notes::LABELS_GREW;
+use indexing::notes::NAMES_GREW;
+use indexing::notes::NEWS_GREW;
+use indexing::notes::OBJECTS_GREW;
+use indexing::notes::SCOPES_GREW;
+use indexing::notes::THROWN_GREW;
+use indexing::notes::VARIABLES_GREW;
+use indexing::notes::has;
+use indexing::notes::set_at;
+use indexing::parts::byte;
+use indexing::parts::held;
+use indexing::parts::names_read;
+use indexing::parts::thrown;
 
 // Whether byte j of the record is in the set at a place.
 fn among(file: &[u8], notes: &[u64; 256], place: usize, at: usize, j: usize) -> bool

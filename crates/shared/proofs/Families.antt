@@ -1,8 +1,8 @@
 -- Unions of rows are what slots tell. Assumes nothing.
 use mathlib.Core.Path.{_≡_}
-use mathlib.Core.Bool.{Bool, true, false}
+use mathlib.Core.Bool.{Bool}
 use mathlib.Core.List.{List}
-use Prim.Native.Nat.{ℕ, _+_, _*_, _<_}
+use Prim.Native.Nat.{ℕ, _+_, _*_}
 use native.Mathlib.Omega.{arith}
 use Rattle.words.proofs.Bits.{On, on-difference}
 use Rattle.rows.specs.Edition.{labels}
@@ -16,10 +16,6 @@ use Rattle.kept.specs.Promise.{chains, throws, handed, under, stored, Tells, Ta
 use Rattle.host.specs.Lays.{namesIn, Lays, Returns, ReturnsOf, Functions, handedBack}
 use Rattle.host.proofs.Returns.{handed-returned, returned-handed}
 use Rattle.shared.proofs.Applied.{gathered-for}
-
-pub labels-some : (wide : Bool) → 0 < labels wide
-labels-some true = omega arith
-labels-some false = omega arith
 
 module _ (wide : Bool) (p : Program) {t : Table} {s r : ℕ} where
   pub chains-told : (base : ℕ) → base ≡ number (labels wide) (chain 0) → Gathered (rowFrom base) t t s r → Gathered (Tells wide p chains) t t s r

@@ -8,7 +8,7 @@ ghost use Rattle.sets.specs.Value.{value};
 ghost use Rattle.lent.specs.Table.{wordCount};
 ghost use Rattle.uses.specs.Use.{Lent};
 ghost use Rattle.kept.specs.Promise.{chains, throws, handed, under, Tellings};
-ghost use Rattle.host.specs.Lays.{Lays, Returns, ReturnsOf, Functions};
+ghost use Rattle.host.specs.Lays.{Lays, Returns, ReturnsOf, Functions, arrays};
 ghost use Rattle.shared.specs.Apply.{Applies, gathering};
 use rows::Label;
 use rows::Var;
@@ -79,7 +79,7 @@ fn told_handed(
     have: Set,
 ) -> Set
     requires { ⌜ wordCount wide ≤ length (now t) ⌝ }
-    ensures { λ r. ⌜ ((p : Program) → ReturnsOf p (record { first = now (first .entry); second = now (second .entry); third = now (third .entry); fourth = now (fourth .entry) }) → Functions p (value wide s) → Tellings wide p handed (now (t .entry)) (value wide s) (value wide have) (value wide r) (now (keeps .entry)) (now (keeps .exit))) ⌝ }
+    ensures { λ r. ⌜ ((p : Program) → ReturnsOf p (arrays (now (first .entry)) (now (second .entry)) (now (third .entry)) (now (fourth .entry))) → Functions p (value wide s) → Tellings wide p handed (now (t .entry)) (value wide s) (value wide have) (value wide r) (now (keeps .entry)) (now (keeps .exit))) ⌝ }
 {
     let pair = kept::HANDED;
     let asked = kept::ask(keeps, wide, pair, s, have);
@@ -139,7 +139,7 @@ pub fn hand_back(
     s: Set,
 ) -> bool
     requires { ⌜ Lent wide o (length (now t)) ⌝ }
-    ensures { λ grew. ⌜ ((p : Program) → ReturnsOf p (record { first = now (first .entry); second = now (second .entry); third = now (third .entry); fourth = now (fourth .entry) }) → Functions p (value wide s) → Applies wide o p (gathering wide p (y .0) handed (value wide s)) (now (t .entry)) (now (keeps .entry)) (now (t .exit)) (now (keeps .exit)) grew) ⌝ }
+    ensures { λ grew. ⌜ ((p : Program) → ReturnsOf p (arrays (now (first .entry)) (now (second .entry)) (now (third .entry)) (now (fourth .entry))) → Functions p (value wide s) → Applies wide o p (gathering wide p (y .0) handed (value wide s)) (now (t .entry)) (now (keeps .entry)) (now (t .exit)) (now (keeps .exit)) grew) ⌝ }
 {
     let r = y.row();
     let have = lent::row(t, o, wide, r);

@@ -63,7 +63,7 @@ module _ {wide : Bool} {file start t u v keeps forgot kept last : List ℕ} (aga
   since : Since wide t u
   since = reached-read (inl refl) (used .only)
 
-  steps : Steps wide file t u kept v last
+  steps : Steps wide file t u v last
   steps = search t since (pass .memory t (λ r l h. h) fresh)
 
   pub turned : Turned wide file start v last grew

@@ -13,11 +13,11 @@ use Rattle.kept.specs.Promise.{Remembers}
 abbrev pub programIn : Bool → List ℕ → Program
 programIn wide file = programOf (readFile (labels wide) file)
 
-pub record Steps (wide : Bool) (file old t keeps u kept : List ℕ) : Type 0 where
+pub record Steps (wide : Bool) (file old t u kept : List ℕ) : Type 0 where
   pub reached : Reached wide 0 (tells wide (rules (labels wide) (programIn wide file))) t u
   pub memory : Remembers wide 0 (programIn wide file) old u kept
 
 -- counted from whatever words the pairs are good for
 abbrev pub StepsFor : Bool → List ℕ → List ℕ → List ℕ → List ℕ → List ℕ → Type 0
 StepsFor wide file t keeps u kept =
-    (old : List ℕ) → Since wide old t → Remembers wide 0 (programIn wide file) old t keeps → Steps wide file old t keeps u kept
+    (old : List ℕ) → Since wide old t → Remembers wide 0 (programIn wide file) old t keeps → Steps wide file old t u kept

@@ -9,11 +9,12 @@ ghost use Rattle.format.specs.Reading.{Readable};
 ghost use Rattle.program.specs.Program.{Program};
 ghost use Rattle.uses.specs.Use.{Lent, Since};
 ghost use Rattle.kept.specs.Promise.{Remembers};
+ghost use Rattle.host.specs.Lays.{arrays};
 ghost use Rattle.passes.specs.Order.{Known};
-ghost use Rattle.search.specs.Begins.{Named};
+ghost use Rattle.indexing.specs.Begins.{Named};
 ghost use Rattle.solver.specs.Steps.{programIn, StepsFor};
-use search::notes::END;
-use search::notes::LINES;
+use indexing::notes::END;
+use indexing::notes::LINES;
 
 // The unions are forgotten where something grew.
 fn forget_if(grew: bool, keeps: &mut [u64; 256], wide: bool)
@@ -40,7 +41,7 @@ fn use_at(
     at: usize,
 ) -> bool
     requires { ⌜ Lent wide 0 (length (now t)) × Readable (labels wide) (now file) × Named (labels wide) (now file) at ⌝ }
-    ensures { λ _. ⌜ (Known wide (programIn wide (now (file .entry))) (now (host .entry)) (now (types .entry)) (now (formals .entry)) (record { first = now (first .entry); second = now (second .entry); third = now (third .entry); fourth = now (fourth .entry) }) → StepsFor wide (now (file .entry)) (now (t .entry)) (now (keeps .entry)) (now (t .exit)) (now (keeps .exit))) ⌝ }
+    ensures { λ _. ⌜ (Known wide (programIn wide (now (file .entry))) (now (host .entry)) (now (types .entry)) (now (formals .entry)) (arrays (now (first .entry)) (now (second .entry)) (now (third .entry)) (now (fourth .entry))) → StepsFor wide (now (file .entry)) (now (t .entry)) (now (keeps .entry)) (now (t .exit)) (now (keeps .exit))) ⌝ }
     ensures { λ _. ⌜ length (now (t .exit)) ≡ length (now (t .entry)) ⌝ }
 {
     if at == LINES {
@@ -101,7 +102,7 @@ pub fn search_on(
     keeps: &mut [u64; 256],
 )
     requires { ⌜ Lent wide 0 (length (now t)) × Readable (labels wide) (now file) ⌝ }
-    ensures { λ _. ⌜ (Known wide (programIn wide (now (file .entry))) (now (host .entry)) (now (types .entry)) (now (formals .entry)) (record { first = now (first .entry); second = now (second .entry); third = now (third .entry); fourth = now (fourth .entry) }) → StepsFor wide (now (file .entry)) (now (t .entry)) (now (keeps .entry)) (now (t .exit)) (now (keeps .exit))) ⌝ }
+    ensures { λ _. ⌜ (Known wide (programIn wide (now (file .entry))) (now (host .entry)) (now (types .entry)) (now (formals .entry)) (arrays (now (first .entry)) (now (second .entry)) (now (third .entry)) (now (fourth .entry))) → StepsFor wide (now (file .entry)) (now (t .entry)) (now (keeps .entry)) (now (t .exit)) (now (keeps .exit))) ⌝ }
     ensures { λ _. ⌜ (go ≡ false → now (t .exit) ≡ now (t .entry)) ⌝ }
 {
     if !go {
@@ -116,7 +117,7 @@ pub fn search_on(
     let mut queue = [0u16; 1024];
     let mut recent = [0u16; 512];
     let mut sizes = [0u16; 768];
-    search::index::index_file(
+    indexing::index::index_file(
         wide,
         file,
         host,
@@ -145,7 +146,7 @@ pub fn search_on(
         );
         forget_if(grew, keeps, wide);
         let grown = grown_at(grew, at);
-        let to = search::ends::ends_read(
+        let to = linking::ends::ends_read(
             wide,
             t,
             file,
@@ -157,7 +158,7 @@ pub fn search_on(
             &notes,
             grown,
         );
-        search::links::note_grown(
+        linking::links::note_grown(
             wide,
             t,
             file,

@@ -6,7 +6,7 @@ use mathlib.Core.List.{List}
 use Prim.Native.Nat.{ℕ, _+_, _*_, _^_, _≤_, _<_}
 use native.Mathlib.Omega.{arith}
 use lib.ListN.{getD}
-use Rattle.words.proofs.Bits.{On, on-single, single-only}
+use Rattle.words.proofs.Bits.{on-single, single-only}
 use Rattle.rows.specs.Edition.{labels, words}
 use Rattle.rows.specs.Row.{rowCount}
 use Rattle.rows.specs.Run.{number}
@@ -32,6 +32,10 @@ read-room wide l = omega (arith, l .room)
 pub count-small : (wide : Bool) → rowCount (labels wide) ≤ 8960
 count-small true = omega arith
 count-small false = omega arith
+
+pub labels-some : (wide : Bool) → 0 < labels wide
+labels-some true = omega arith
+labels-some false = omega arith
 
 pub labels-small : (wide : Bool) → labels wide ≤ 256
 labels-small true = omega arith

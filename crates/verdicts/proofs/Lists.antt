@@ -1,7 +1,7 @@
 -- The operations refuse exactly what document 01's lists say (specs/Lists.antt), with that number and at that position, and nothing else.
 -- Assumes nothing.
-use mathlib.Core.Path.{_≡_, refl, sym, subst, _∙_}
-use mathlib.Core.Logic.{_⊎_, inl, inr, _↔_}
+use mathlib.Core.Path.{_≡_, refl, sym, ap, subst, _∙_}
+use mathlib.Core.Logic.{_⊎_, inl, inr, ⊎-elim, _↔_}
 use mathlib.Core.List.{List}
 use mathlib.Core.Bool.{false}
 use Prim.Native.Nat.{ℕ, _^_, _<_, _≤_}
@@ -12,7 +12,7 @@ use lib.Dec.{eqb}
 use lib.Count.{trailingZeros}
 use borrow.Author.Tests.{eq-eqb, ne-eqb, le-ltb, lt-ltb}
 use Rattle.rows.specs.Row.{rowCount}
-use Rattle.answer.specs.Outcome.{Outcome, accepted, refused, holds}
+use Rattle.answer.specs.Outcome.{Outcome, confined, leaks, accepted, refused, holds, choice, noneHelps}
 use Rattle.rules.specs.Table.{Table}
 use Rattle.rules.specs.Told.{Closed}
 use Rattle.rules.specs.Gap.{gap}
@@ -59,76 +59,69 @@ module _ (L : ℕ) (five : 5 ≤ L) (xs : List ℕ) (words : ℕ) where
   listed-number n at (table-short h e p) = (omega arith, omega arith)
   listed-number n at (file-bad h b) = let d = bad-file-iff L five xs n at .0 b in (d .0, omega (arith, d .1, file-refusal-small L xs))
 
-  -- two refusals are the same exactly where number and position are
-  listed-same : (n at m q : ℕ) → refused m q ≡ refused n at → VerdictRefuses L xs words m q → VerdictRefuses L xs words n at
-  listed-same n at m q e r =
-      let a : m ≡ n = cc in
-      let b : q ≡ at = cc in
-      subst (λ (x : ℕ). VerdictRefuses L xs words x at) a (subst (VerdictRefuses L xs words m) b r)
-
   -- ---- the verdict
 
-  judgment : Outcome
-  judgment = judged L (programIn L xs)
+  -- what an answer of the verdict says of file and table: a listed refusal, or that both are taken; the verdict has no other answer
+  abbrev VerdictSays : Outcome → Type 0
+  VerdictSays (refused n at) = VerdictRefuses L xs words n at
+  VerdictSays (confined n) = (rowCount L ≤ words) × Readable L xs
+  VerdictSays (leaks l g n) = (rowCount L ≤ words) × Readable L xs
+  VerdictSays (accepted n) = ⊥
+  VerdictSays (holds l g) = ⊥
+  VerdictSays (choice w) = ⊥
+  VerdictSays noneHelps = ⊥
 
-  judgment-cases : Confined judgment ⊎ Leaks judgment
-  unfolding judgment
-  judgment-cases = judged-cases L (programIn L xs)
-
-  judged-refuses-nothing : (n at : ℕ) → judgment ≡ refused n at → ⊥
-  judged-refuses-nothing n at e = go judgment-cases
+  verdict-says : VerdictSays (verdictOutcome L words xs)
+  unfolding verdictOutcome
+  verdict-says = go (listed (judged L (programIn L xs)))
     where
-      go : Confined judgment ⊎ Leaks judgment → ⊥
-      go (inl c) = let q = c .1 in let z : _≡_ {A = ℕ} 0 1 = cc in omega arith
-      go (inr k) = let q = k .3 in let z : _≡_ {A = ℕ} 0 1 = cc in omega arith
+      of-judgment : {o : Outcome} → Confined o ⊎ Leaks o → (rowCount L ≤ words) × Readable L xs → VerdictSays o
+      of-judgment (inl c) h = subst VerdictSays (sym (c .1)) h
+      of-judgment (inr k) h = subst VerdictSays (sym (k .3)) h
 
-  verdict-taken : Taken judgment (verdictOutcome L words xs)
-  unfolding verdictOutcome judgment
-  verdict-taken = listed (judged L (programIn L xs))
+      go : {o : Outcome} → Taken (judged L (programIn L xs)) o → VerdictSays o
+      go (inl r) = subst VerdictSays (sym (r .3)) (r .2)
+      go (inr r) = subst VerdictSays (sym (r .2)) (of-judgment (judged-cases L (programIn L xs)) (r .0, r .1))
 
   pub verdict-refuses : (n at : ℕ) → (verdictOutcome L words xs ≡ refused n at) ↔ VerdictRefuses L xs words n at
   unfolding verdictOutcome
-  verdict-refuses n at = (forth verdict-taken, listed-refused refused (judged L (programIn L xs)) n at)
-    where
-      forth : {o : Outcome} → Taken judgment o → o ≡ refused n at → VerdictRefuses L xs words n at
-      forth (inl r) e = listed-same n at (r .0) (r .1) (sym (r .3) ∙ e) (r .2)
-      forth (inr r) e = absurd (judged-refuses-nothing n at (sym (r .2) ∙ e))
+  verdict-refuses n at = ((λ e. subst VerdictSays e verdict-says), listed-refused refused (judged L (programIn L xs)) n at)
 
   -- "confined, leaks .., or a numbered refusal"
   pub verdict-answers : Confined (verdictOutcome L words xs) ⊎ (Leaks (verdictOutcome L words xs) ⊎ Refused 9 (verdictOutcome L words xs))
-  verdict-answers = go verdict-taken
+  verdict-answers = go (verdictOutcome L words xs) verdict-says
     where
-      by-case : {o : Outcome} → o ≡ judgment → Confined judgment ⊎ Leaks judgment → Confined o ⊎ (Leaks o ⊎ Refused 9 o)
-      by-case e (inl c) = inl (c .0, e ∙ c .1)
-      by-case e (inr k) = inr (inl (k .0, k .1, k .2, e ∙ k .3))
+      go : (o : Outcome) → VerdictSays o → Confined o ⊎ (Leaks o ⊎ Refused 9 o)
+      go (refused n at) r = let d = listed-number n at r in inr (inr (n, at, d .0, d .1, refl))
+      go (confined n) r = inl (n, refl)
+      go (leaks l g n) r = inr (inl (l, g, n, refl))
+      go (accepted n) r = absurd r
+      go (holds l g) r = absurd r
+      go (choice w) r = absurd r
+      go noneHelps r = absurd r
 
-      go : {o : Outcome} → Taken judgment o → Confined o ⊎ (Leaks o ⊎ Refused 9 o)
-      go (inl r) = let d = listed-number (r .0) (r .1) (r .2) in inr (inr (r .0, r .1, d .0, d .1, r .3))
-      go (inr r) = by-case (r .2) judgment-cases
+  -- a table of full size and a readable file, or a refusal
+  taken-or-refused : ((rowCount L ≤ words) × Readable L xs) ⊎ Refused 9 (verdictOutcome L words xs)
+  taken-or-refused =
+      ⊎-elim
+      (λ c. inl (subst VerdictSays (c .1) verdict-says))
+      (⊎-elim (λ k. inl (subst VerdictSays (k .3) verdict-says)) inr)
+      verdict-answers
 
-  -- what is not refused has full size and is readable
   pub not-refused : ((n at : ℕ) → verdictOutcome L words xs ≡ refused n at → ⊥) → (rowCount L ≤ words) × Readable L xs
-  not-refused none = go verdict-taken none
-    where
-      go : {o : Outcome} → Taken judgment o → ((n at : ℕ) → o ≡ refused n at → ⊥) → (rowCount L ≤ words) × Readable L xs
-      go (inl r) d = absurd (d (r .0) (r .1) (r .3))
-      go (inr r) d = (r .0, r .1)
+  not-refused none = ⊎-elim (λ h. h) (λ r. absurd (none (r .0) (r .1) (r .4))) taken-or-refused
 
   -- refused exactly where the table is too short or the file no concatenation of well-formed records
   pub refused-exactly : Refused 9 (verdictOutcome L words xs) ↔ ((words < rowCount L) ⊎ (Concatenation L xs → ⊥))
-  refused-exactly = ((λ r. why (r .0) (r .1) (verdict-refuses (r .0) (r .1) .0 (r .4))), back)
+  refused-exactly = ((λ r. why (r .0) (r .1) (verdict-refuses (r .0) (r .1) .0 (r .4))), λ h. ⊎-elim (λ k. absurd (neither h k)) (λ r. r) taken-or-refused)
     where
       why : (n at : ℕ) → VerdictRefuses L xs words n at → (words < rowCount L) ⊎ (Concatenation L xs → ⊥)
       why n at (table-short h e p) = inl h
       why n at (file-bad h b) = inr (λ c. omega (arith, bad-file-iff L five xs n at .0 b, readable-iff L five xs .1 c))
 
-      go : {o : Outcome} → Taken judgment o → (words < rowCount L) ⊎ (Concatenation L xs → ⊥) → Refused 9 o
-      go (inl r) h = let d = listed-number (r .0) (r .1) (r .2) in (r .0, r .1, d .0, d .1, r .3)
-      go (inr r) (inl h) = absurd (omega (arith, r .0))
-      go (inr r) (inr h) = absurd (h (readable-iff L five xs .0 (r .1)))
-
-      back : (words < rowCount L) ⊎ (Concatenation L xs → ⊥) → Refused 9 (verdictOutcome L words xs)
-      back = go verdict-taken
+      neither : (words < rowCount L) ⊎ (Concatenation L xs → ⊥) → (rowCount L ≤ words) × Readable L xs → ⊥
+      neither (inl h) k = omega (arith, k .0)
+      neither (inr h) k = h (readable-iff L five xs .0 (k .1))
 
 -- ---- the check
 
@@ -231,76 +224,58 @@ module _ (L : ℕ) (five : 5 ≤ L) (xs : List ℕ) (t : Table) where
 
   -- ---- and nothing else is
 
-  -- a listed refusal, 11 apart, or nothing in the list is against file and table
-  abbrev Examined : Outcome → Type 0
-  Examined o =
-      ((n at : ℕ) × CheckRefuses L xs t n at × (1 ≤ n) × (n ≤ 10) × (o ≡ refused n at))
-      ⊎ (((l g : ℕ) × CheckHolds L xs t l g × (o ≡ holds l g))
-      ⊎ (Acceptable L xs t × (o ≡ accepted 0)))
+  -- what an answer says of file and table: a listed refusal, 11, or that nothing in the list is against them; the check has no other answer
+  abbrev CheckSays : Outcome → Type 0
+  CheckSays (refused n at) = CheckRefuses L xs t n at × (1 ≤ n) × (n ≤ 10)
+  CheckSays (holds l g) = CheckHolds L xs t l g
+  CheckSays (accepted n) = Acceptable L xs t × (n ≡ 0)
+  CheckSays (confined n) = ⊥
+  CheckSays (leaks l g n) = ⊥
+  CheckSays (choice w) = ⊥
+  CheckSays noneHelps = ⊥
 
-  examined : Examined (checkOutcome L xs t)
+  examined : CheckSays (checkOutcome L xs t)
   unfolding checkOutcome
   examined = go (listed L five xs (length t) (checked L (programIn L xs) t))
     where
-      read : {o : Outcome} → rowCount L ≤ length t → Readable L xs → o ≡ checked L (programIn L xs) t → Dec (row < rowCount L) → Dec (held ≡ 0) → Examined o
-      read full ok e (yes h) _ =
-          inl (10, row, row-lacks full ok (row-lacking ok h) (row-first ok) refl, omega arith, omega arith, e ∙ says-ten h)
-      read full ok e (no h) (yes z) =
+      read : rowCount L ≤ length t → Readable L xs → Dec (row < rowCount L) → Dec (held ≡ 0) → CheckSays (checked L (programIn L xs) t)
+      read full ok (yes h) _ = subst CheckSays (sym (says-ten h)) (row-lacks full ok (row-lacking ok h) (row-first ok) refl, omega arith, omega arith)
+      read full ok (no h) (yes z) =
           let b : rowCount L ≤ row = omega arith in
-          inr (inr (record { full-size = full; readable = ok; none-lacks = none-lacks ok b; none-held = label-none ok z }, e ∙ says-accepted b z))
-      read full ok e (no h) (no d) =
+          subst CheckSays (sym (says-accepted b z)) (record { full-size = full; readable = ok; none-lacks = none-lacks ok b; none-held = label-none ok z }, refl)
+      read full ok (no h) (no d) =
           let b : rowCount L ≤ row = omega arith in
-          inr (inl (
-            _,
-            3,
-            record { full-size = full; readable = ok; none-lacks = none-lacks ok b; lowest = label-lowest ok d; guest-three = refl },
-            e ∙ says-eleven b d,
-          ))
+          let at : CheckHolds L xs t (trailingZeros L held) 3 =
+          record { full-size = full; readable = ok; none-lacks = none-lacks ok b; lowest = label-lowest ok d; guest-three = refl } in
+          subst CheckSays (sym (says-eleven b d)) at
 
-      go : {o : Outcome} → Taken L five xs (length t) (checked L (programIn L xs) t) o → Examined o
-      go (inl r) = let d = listed-number L five xs (length t) (r .0) (r .1) (r .2) in inl (r .0, r .1, as-the-verdict (r .2), d .0, omega (arith, d .1), r .3)
-      go (inr r) = read (r .0) (r .1) (r .2) (decLt row (rowCount L)) (ℕ-discrete held 0)
+      go : {o : Outcome} → Taken L five xs (length t) (checked L (programIn L xs) t) o → CheckSays o
+      go (inl r) =
+          let d = listed-number L five xs (length t) (r .0) (r .1) (r .2) in
+          subst CheckSays (sym (r .3)) (as-the-verdict (r .2), d .0, omega (arith, d .1))
+      go (inr r) = subst CheckSays (sym (r .2)) (read (r .0) (r .1) (decLt row (rowCount L)) (ℕ-discrete held 0))
 
   pub check-refuses : (n at : ℕ) → (checkOutcome L xs t ≡ refused n at) ↔ CheckRefuses L xs t n at
-  check-refuses n at = (forth examined, check-said n at)
-    where
-      forth : {o : Outcome} → Examined o → o ≡ refused n at → CheckRefuses L xs t n at
-      forth (inl r) e =
-          let q : refused (r .0) (r .1) ≡ refused n at = sym (r .5) ∙ e in
-          let a : r .0 ≡ n = cc in
-          let b : r .1 ≡ at = cc in
-          subst (λ (x : ℕ). CheckRefuses L xs t x at) a (subst (CheckRefuses L xs t (r .0)) b (r .2))
-      forth (inr (inl r)) e = let q = r .3 in let z : _≡_ {A = ℕ} 0 1 = cc in absurd (omega arith)
-      forth (inr (inr r)) e = let q = r .1 in let z : _≡_ {A = ℕ} 0 1 = cc in absurd (omega arith)
+  check-refuses n at = ((λ e. subst CheckSays e examined .0), check-said n at)
 
   pub check-holds : (l g : ℕ) → (checkOutcome L xs t ≡ holds l g) ↔ CheckHolds L xs t l g
-  check-holds l g = (forth examined, holding-said l g)
-    where
-      forth : {o : Outcome} → Examined o → o ≡ holds l g → CheckHolds L xs t l g
-      forth (inl r) e = let q = r .5 in let z : _≡_ {A = ℕ} 0 1 = cc in absurd (omega arith)
-      forth (inr (inl r)) e =
-          let q : holds (r .0) (r .1) ≡ holds l g = sym (r .3) ∙ e in
-          let a : r .0 ≡ l = cc in
-          let b : r .1 ≡ g = cc in
-          subst (λ (x : ℕ). CheckHolds L xs t x g) a (subst (CheckHolds L xs t (r .0)) b (r .2))
-      forth (inr (inr r)) e = let q = r .1 in let z : _≡_ {A = ℕ} 0 1 = cc in absurd (omega arith)
+  check-holds l g = ((λ e. subst CheckSays e examined), holding-said l g)
 
   pub check-accepts : Accepts L xs t ↔ Acceptable L xs t
-  check-accepts = (forth examined, acceptable-accepted)
-    where
-      forth : {o : Outcome} → Examined o → o ≡ accepted 0 → Acceptable L xs t
-      forth (inl r) e = let q = r .5 in let z : _≡_ {A = ℕ} 0 1 = cc in absurd (omega arith)
-      forth (inr (inl r)) e = let q = r .3 in let z : _≡_ {A = ℕ} 0 1 = cc in absurd (omega arith)
-      forth (inr (inr r)) e = r .0
+  check-accepts = ((λ e. subst CheckSays e examined .0), acceptable-accepted)
 
   -- "accepted or a refusal"
   pub check-answers : Accepts L xs t ⊎ (Refused 10 (checkOutcome L xs t) ⊎ Holds (checkOutcome L xs t))
-  check-answers = go examined
+  check-answers = go (checkOutcome L xs t) examined
     where
-      go : {o : Outcome} → Examined o → (o ≡ accepted 0) ⊎ (Refused 10 o ⊎ Holds o)
-      go (inl r) = inr (inl (r .0, r .1, r .3, r .4, r .5))
-      go (inr (inl r)) = inr (inr (r .0, r .1, r .3))
-      go (inr (inr r)) = inl (r .1)
+      go : (o : Outcome) → CheckSays o → (o ≡ accepted 0) ⊎ (Refused 10 o ⊎ Holds o)
+      go (refused n at) s = inr (inl (n, at, s .1, s .2, refl))
+      go (holds l g) s = inr (inr (l, g, refl))
+      go (accepted n) s = inl (ap accepted (s .1))
+      go (confined n) s = absurd s
+      go (leaks l g n) s = absurd s
+      go (choice w) s = absurd s
+      go noneHelps s = absurd s
 
   -- ---- the same in the terms of the rules
 

@@ -4,7 +4,7 @@ use native.Mathlib.Omega.{arith}
 use lib.ListN.{length}
 use Rattle.rows.specs.Edition.{labels}
 use Rattle.records.specs.Walk.{Walk}
-use Rattle.laying.specs.Marked.{arrays}
+use Rattle.host.specs.Lays.{arrays}
 use Rattle.format.proofs.File.{readable-read}
 use Rattle.records.proofs.Walks.{five-labels, most-labels, walk-first, first-done, onward}
 use Rattle.laying.proofs.Collected.{Collected, empty-whole, collected-first, collected-next, collected-all}

@@ -6,13 +6,10 @@ use Rattle.sets.specs.Value.{value}
 use Rattle.sets.proofs.Values.{some-left, none-left}
 use Rattle.uses.specs.Use.{tableOf}
 use Rattle.uses.proofs.Unions.{Adding, adding-start, adding-next, adding-end, added-whole}
-use Rattle.host.specs.Lays.{Returns, handedBack}
+use Rattle.host.specs.Lays.{arrays, handedBack}
 use Rattle.host.proofs.Returns.{turn-handed}
 use Rattle.host.proofs.handed.gather_handed.Statement.{statement}
 use Rattle.host.proofs.handed.gather_handed.Tie as tie
-
-abbrev arrays : List ℕ → List ℕ → List ℕ → List ℕ → Returns
-arrays first second third fourth = record { first = first; second = second; third = third; fourth = fourth }
 
 abbrev Inv-loop : tie.InvT-loop
 Inv-loop t wide first second third fourth all₀ rest₀ all rest =

@@ -7,7 +7,7 @@ use lib.ListN.{length, take}
 use Rattle.rules.specs.Rule.{every}
 use Rattle.program.specs.Program.{Program}
 use Rattle.uses.specs.Use.{tells}
-use Rattle.host.specs.Lays.{Lays, FormalsOf, ReturnsOf}
+use Rattle.host.specs.Lays.{Lays, FormalsOf, ReturnsOf, arrays}
 use Rattle.shared.specs.Apply.{Applies}
 use Rattle.passes.proofs.Every.{applies-none, applies-same}
 use Rattle.passes.proofs.Guests.{guestList, guest-next, guest-all, guest-turn}
@@ -17,7 +17,7 @@ use Rattle.passes.proofs.guest.guest.Tie as tie
 abbrev Inv-loop : tie.InvT-loop
 Inv-loop t₀ o wide host formals first second third fourth keeps₀ grew₀ i₀ t keeps grew i =
     (length t ≡ length t₀) × (i ≤ 8)
-    × ((p : Program) → Lays wide p host → FormalsOf p formals → ReturnsOf p (record { first = first; second = second; third = third; fourth = fourth })
+    × ((p : Program) → Lays wide p host → FormalsOf p formals → ReturnsOf p (arrays first second third fourth)
     → Applies wide o p (tells wide (every (take i (guestList p)))) t₀ keeps₀ t keeps grew)
 
 abbrev μ-loop : tie.MeasureT-loop

@@ -7,7 +7,7 @@ use lib.ListN.{length}
 use Rattle.rows.specs.Edition.{labels}
 use Rattle.format.proofs.File.{readable-read}
 use Rattle.records.proofs.Walks.{walk-room}
-use Rattle.host.specs.Lays.{Lays, FormalsOf, ReturnsOf}
+use Rattle.host.specs.Lays.{Lays, FormalsOf, ReturnsOf, arrays}
 use Rattle.passes.proofs.Every.{applies-same}
 use Rattle.passes.proofs.Walked.{Walked, walked-start, walked-next, walked-end}
 use Rattle.passes.proofs.walk.host_rules.Statement.{statement}
@@ -16,7 +16,7 @@ use Rattle.passes.proofs.walk.host_rules.Tie as tie
 abbrev Inv-loop : tie.InvT-loop
 Inv-loop t₀ o wide host formals first second third fourth keeps₀ file grew₀ at₀ t keeps grew at =
     (length t ≡ length t₀)
-    × Walked wide o (λ p. Lays wide p host × FormalsOf p formals × ReturnsOf p (record { first = first; second = second; third = third; fourth = fourth })) file t₀ keeps₀ t keeps grew at
+    × Walked wide o (λ p. Lays wide p host × FormalsOf p formals × ReturnsOf p (arrays first second third fourth)) file t₀ keeps₀ t keeps grew at
 
 abbrev μ-loop : tie.MeasureT-loop
 μ-loop t₀ o wide host formals first second third fourth keeps₀ file grew₀ at₀ t keeps grew at = length file - at

@@ -10,45 +10,7 @@ Inv-loop wide t file host formals recent notes₀ count back₀ back-end notes b
 abbrev μ-loop : tie.MeasureT-loop
 μ-loop wide t file host formals recent notes₀ count back₀ back-end notes back = back-end - back
 
-recent-count-requires : tie.Need-recent-count-requires Inv-loop μ-loop
-recent-count-requires c κs = search needs
-
-least-requires : tie.Need-least-requires Inv-loop μ-loop
-least-requires c κs = search needs
-
-loop-holds : tie.Need-loop-holds Inv-loop μ-loop
-loop-holds c = search needs
-
-recent-at-requires : tie.Need-recent-at-requires Inv-loop μ-loop
-recent-at-requires c κs = search needs
-
-note-written-requires : tie.Need-note-written-requires Inv-loop μ-loop
-note-written-requires c κs = search needs
-
-add-back : tie.Need-add-back Inv-loop μ-loop
-add-back c = search needs
-
-loop-less : tie.Need-loop-less Inv-loop μ-loop
-loop-less c = search needs
-
-loop-again : tie.Need-loop-again Inv-loop μ-loop
-loop-again c = search needs
-
-returns : tie.Need-returns Inv-loop μ-loop
-returns c = search needs
-
 pub note-last-spec : {M : Type 1} → statement M
 note-last-spec =
-    tie.close
-    (tie.spec
-    Inv-loop
-    μ-loop
-    recent-count-requires
-    least-requires
-    loop-holds
-    recent-at-requires
-    note-written-requires
-    add-back
-    loop-less
-    loop-again
-    returns)
+    tie.close (tie.spec Inv-loop μ-loop (λ c κs. search needs) (λ c κs. search needs) (λ c. search needs) (λ c κs. search needs)
+    (λ c κs. search needs) (λ c. search needs) (λ c. search needs) (λ c. search needs) (λ c. search needs))

@@ -2,15 +2,10 @@
 use borrow.Author.Needs.{needs}
 use Rattle.kept.proofs.Slots.{slot-chains}
 use Rattle.kept.proofs.Tellings.{asks-room, tellings}
-use Rattle.shared.proofs.Families.{labels-some, chains-told}
+use Rattle.uses.proofs.Rows.{labels-some}
+use Rattle.shared.proofs.Families.{chains-told}
 use Rattle.shared.proofs.told.told_chains.Statement.{statement}
 use Rattle.shared.proofs.told.told_chains.Tie as tie
-
-chain-requires : tie.Need-chain-requires
-chain-requires c κs = labels-some (c .before .before .before .before .before .before .args .wide)
-
-answer-requires : tie.Need-answer-requires
-answer-requires c κs = asks-room (c .before .before .before .before .ask .ensures)
 
 returns : tie.Need-returns
 returns c =
@@ -25,12 +20,5 @@ returns c =
 
 pub told-chains-spec : {M : Type 1} → statement M
 told-chains-spec =
-    tie.close
-    (tie.spec
-    (λ c κs. search needs)
-    (λ c κs. search needs)
-    (λ c κs. search needs)
-    chain-requires
-    (λ c κs. search needs)
-    answer-requires
-    returns)
+    tie.close (tie.spec (λ c κs. search needs) (λ c κs. search needs) (λ c κs. search needs) (λ c κs. search (needs, labels-some))
+    (λ c κs. search needs) (λ c κs. asks-room (c .before .before .before .before .ask .ensures)) returns)

@@ -9,6 +9,7 @@ use Rattle.rows.specs.Edition.{labels}
 use Rattle.format.proofs.File.{readable-read}
 use Rattle.lent.specs.Table.{wordCount}
 use Rattle.uses.proofs.Rows.{read-room}
+use Rattle.host.specs.Lays.{arrays}
 use Rattle.passes.specs.Order.{Known}
 use Rattle.solver.specs.Steps.{programIn, StepsFor}
 use Rattle.solver.proofs.Turning.{steps-none, steps-on, steps-forget, zero-at, went}
@@ -18,7 +19,7 @@ use Rattle.solver.proofs.turns.search_on.Tie as tie
 abbrev Inv-loop : tie.InvT-loop
 Inv-loop go t₀ wide file host types formals first second third fourth keeps₀ low high index notes₀ links-low₀ links-high₀ queue₀ recent₀ sizes₀ on₀ turns₀ t keeps notes links-low links-high queue recent sizes on turns =
     (length t ≡ length t₀) × (on ≡ true → turns < 100000000)
-    × (Known wide (programIn wide file) host types formals (record { first = first; second = second; third = third; fourth = fourth }) → StepsFor wide file t₀ keeps₀ t keeps)
+    × (Known wide (programIn wide file) host types formals (arrays first second third fourth) → StepsFor wide file t₀ keeps₀ t keeps)
 
 abbrev μ-loop : tie.MeasureT-loop
 μ-loop go t₀ wide file host types formals first second third fourth keeps₀ low high index notes₀ links-low₀ links-high₀ queue₀ recent₀ sizes₀ on₀ turns₀ t keeps notes links-low links-high queue recent sizes on turns =

@@ -1,2 +1,0 @@
--- One use of the rules of each statement.
-pub mod Passing

@@ -1,0 +1,125 @@
+// The index: where records begin that read something, and in which blocks of 512 bytes a variable, label, scope or name is read.
+ghost use mathlib.Core.Path.{_≡_};
+ghost use Prim.Native.Nat.{ℕ, _<_, _≤_};
+ghost use lib.ListN.{length, getD};
+ghost use Rattle.rows.specs.Edition.{labels};
+ghost use Rattle.format.specs.Reading.{Readable};
+ghost use Rattle.records.specs.Walk.{Walk};
+ghost use Rattle.indexing.specs.Begins.{Begins};
+use crate::begins::set_start;
+use crate::notes::CALLEES;
+use crate::notes::NAMED;
+use crate::notes::OBJECTS;
+use crate::notes::WORD;
+use crate::notes::place_of;
+use crate::notes::put;
+use crate::parts::byte;
+use crate::parts::bytes_at;
+use crate::parts::names_read;
+use crate::parts::one;
+use crate::parts::reads;
+use sets::Set;
+
+// Enters the block under each byte of s.
+fn enter_bytes(index: &mut [u64; 256], s: Set, block: u64) {
+    let mut rest = s;
+    while !sets::is_empty(true, rest) {
+        let next = sets::next(true, rest);
+        let v = place_of(next.label.0);
+        index[v] = words::join(index[v], block);
+        let after = next.rest;
+        rest = after;
+    }
+}
+
+// Enters the block under each of the names.
+fn enter_names(notes: &mut [u64; 256], names: u64, block: u64) {
+    let mut rest = names;
+    while rest != 0 {
+        let next = words::next(rest);
+        let n = NAMED + next.label % 32;
+        notes[n] = words::join(notes[n], block);
+        let after = next.rest;
+        rest = after;
+    }
+}
+
+// Notes a record's callee and its object.
+fn enter_roles(file: &[u8], notes: &mut [u64; 256], at: usize) {
+    match byte(file, at, 0) {
+        17 => put(notes, OBJECTS, byte(file, at, 3)),
+        21 => put(notes, CALLEES, byte(file, at, 3)),
+        22 => {
+            put(notes, CALLEES, byte(file, at, 3));
+            put(notes, OBJECTS, byte(file, at, 3));
+        }
+        26 => put(notes, OBJECTS, byte(file, at, 2)),
+        _ => {}
+    }
+}
+
+// The bytes under which the record at `at` stands in the index; a grant reads variable 1 too.
+fn entries(file: &[u8], at: usize, kind: u8) -> Set {
+    let own = bytes_at(file, at, reads(kind));
+    if kind == 6 {
+        return sets::union(true, own, one(1));
+    }
+    own
+}
+
+// Enters what the record at `at` reads.
+fn enter_reads(
+    file: &[u8],
+    host: &[u64; 16],
+    index: &mut [u64; 256],
+    notes: &mut [u64; 256],
+    at: usize,
+) {
+    let block = words::single(at / 512 % 64);
+    enter_bytes(index, entries(file, at, byte(file, at, 0)), block);
+    enter_names(notes, names_read(file, host, at), block);
+    enter_roles(file, notes, at);
+}
+
+// Enters the record at `at`, if it reads something.
+fn enter(
+    wide: bool,
+    file: &[u8],
+    host: &[u64; 16],
+    low: &mut [u64; 256],
+    high: &mut [u64; 256],
+    index: &mut [u64; 256],
+    notes: &mut [u64; 256],
+    at: usize,
+)
+    requires { ⌜ Walk (labels wide) (now file) at × (at < length (now file)) × Begins (labels wide) (now file) (now low) (now high) ⌝ }
+    ensures { λ _. ⌜ Begins (labels wide) (now (file .entry)) (now (low .exit)) (now (high .exit)) ⌝ }
+{
+    if reads(byte(file, at, 0)) == 0 {
+        return;
+    }
+    set_start(low, 0, at);
+    set_start(high, 16384, at);
+    enter_reads(file, host, index, notes, at);
+}
+
+// Enters the records of a file. All arrays are zeros at first.
+pub fn index_file(
+    wide: bool,
+    file: &[u8],
+    host: &[u64; 16],
+    low: &mut [u64; 256],
+    high: &mut [u64; 256],
+    index: &mut [u64; 256],
+    notes: &mut [u64; 256],
+)
+    requires { ⌜ Readable (labels wide) (now file) × (length (now file) ≤ 32768) × ((i : ℕ) → getD (now low) i 0 ≡ 0) × ((i : ℕ) → getD (now high) i 0 ≡ 0) ⌝ }
+    ensures { λ _. ⌜ Begins (labels wide) (now (file .entry)) (now (low .exit)) (now (high .exit)) ⌝ }
+{
+    notes[WORD] = 511;
+    let mut at: usize = 0;
+    while at < file.len() {
+        enter(wide, file, host, low, high, index, notes, at);
+        at = records::after(wide, file, at);
+    }
+}

@@ -1,0 +1,2 @@
+-- One use of the rules that are a few joins.
+pub mod Mutual

@@ -1,0 +1,4 @@
+pub mod Through
+pub mod Properties
+pub mod Calls
+pub mod Conversions

@@ -1,0 +1,2 @@
+-- One use of the rules that look something up.
+pub mod Passing

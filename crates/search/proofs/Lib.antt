@@ -1,2 +1,0 @@
--- Laws of the search.
-pub mod Begins
