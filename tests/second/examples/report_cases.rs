@@ -1,10 +1,11 @@
-//! Writes the files of the Rattle program `cases` and what it must print: document 01's eight listed files, and four structured files that use
-//! every kind of record, two confined and two leaking. Run from this package's folder.
+//! Writes the files of the Rattle program `cases` and what it must print, of each file in both editions: document 01's eight listed files, four structured
+//! files that use every kind of record, two confined and two leaking, and two more with labels above 63. Run from this package's folder.
 
-use second::check::check;
-use second::generate::structured;
-use second::reader::{body_length, read};
-use second::report::report;
+use second::check::check_in;
+use second::edition::Edition;
+use second::generate::structured_in;
+use second::reader::{body_length, read, read_in};
+use second::report::report_in;
 use second::solver::{solve, Verdict};
 use std::collections::BTreeSet;
 use std::fs;
@@ -30,25 +31,43 @@ fn listed() -> Vec<Vec<u8>> {
     vec![vec![], vec![3, 3], journal, named, granted, built_in, function, returned]
 }
 
+/// What is printed of a file in an edition: the verdict, and what the check says of the table that it left.
+fn lines_in(edition: Edition, file: &[u8]) -> String {
+    let table = read_in(edition, file).map_or(vec![0; edition.table_words()], |program| solve(&program).table);
+    let checked = match check_in(edition, file, &table) {
+        Ok(()) => "accepted\n".to_string(),
+        Err(r) => format!("refused {} {}\n", r.number, r.position),
+    };
+    report_in(edition, file) + &checked
+}
+
+/// The first structured file of the edition from a seed on that uses every kind, leaks or not as asked, and is none of the small edition where it is a
+/// large one.
+fn every_kind(edition: Edition, from: u64, leaking: bool) -> Vec<u8> {
+    (from..)
+        .map(|seed| structured_in(edition, seed).1)
+        .find(|f| {
+            kinds(f).len() == 19
+                && (edition == Edition::Small || read(f).is_err())
+                && matches!(solve(&read_in(edition, f).unwrap()).verdict, Verdict::Leaks(_)) == leaking
+        })
+        .unwrap()
+}
+
 fn main() -> std::io::Result<()> {
     let mut cases: Vec<(String, Vec<u8>)> =
         listed().into_iter().enumerate().map(|(i, f)| (format!("listed-{}", i + 1), f)).collect();
-    for leaking in [false, false, true, true] {
-        let number = cases.len() - 7;
-        let file = (0..)
-            .map(|seed| structured(seed + 1000 * number as u64).1)
-            .find(|f| kinds(f).len() == 19 && matches!(solve(&read(f).unwrap()).verdict, Verdict::Leaks(_)) == leaking)
-            .unwrap();
-        cases.push((format!("every-{number}"), file));
+    for (number, leaking) in (1..).zip([false, false, true, true]) {
+        cases.push((format!("every-{number}"), every_kind(Edition::Small, 1000 * number, leaking)));
+    }
+    for (number, leaking) in (1..).zip([false, true]) {
+        cases.push((format!("large-{number}"), every_kind(Edition::Large, 1000 * number, leaking)));
     }
     let mut lines = String::new();
     for (name, file) in &cases {
-        let table = solve(&read(file).unwrap()).table;
-        lines += &report(file);
-        lines += &match check(file, &table) {
-            Ok(()) => "accepted\n".to_string(),
-            Err(r) => format!("refused {} {}\n", r.number, r.position),
-        };
+        for edition in Edition::BOTH {
+            lines += &lines_in(edition, file);
+        }
         fs::write(format!("../../crates/cases/data/{name}"), file)?;
     }
     fs::write("../../crates/cases/stdout", &lines)?;
