@@ -58,6 +58,11 @@ pub const FUNCTIONS_GREW: usize = 84;
 // the names under which something was stored
 pub const NAMES_GREW: usize = 88;
 
+// the labels in which something was stored, and those with one of them on their chain
+pub const OWNERS_GREW: usize = 104;
+
+pub const SEERS: usize = 108;
+
 // ---- the scan of the round
 
 // the marked blocks that are left; the number of 64 bytes at which the scan is, and those of its records that are left
@@ -79,11 +84,17 @@ pub const FROM_QUEUE: usize = 99;
 // which rows the round looks at: 0 before the first, then one of these
 pub const STAGE: usize = 100;
 
+// the rows of variables, scopes and chains that the last record which grew something may have written; those in which it stored; the same of the last 16
 pub const LAST: u64 = 1;
 
-pub const NEAR: u64 = 2;
+pub const LAST_STORED: u64 = 2;
 
-pub const ALL: u64 = 3;
+pub const NEAR: u64 = 3;
+
+pub const NEAR_STORED: u64 = 4;
+
+// all rows that grew
+pub const ALL: u64 = 5;
 
 // ---- numbers
 

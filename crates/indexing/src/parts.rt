@@ -138,6 +138,17 @@ pub fn stored(t: &[u64], wide: bool, file: &[u8], at: usize) -> Set
     }
 }
 
+// The labels in whose objects it stores.
+pub fn owners(t: &[u64], wide: bool, file: &[u8], at: usize) -> Set
+    requires { ⌜ wordCount wide ≤ length (now t) ⌝ }
+{
+    match byte(file, at, 0) {
+        5 => one(0),
+        18 => held(t, wide, file, at, 2),
+        _ => sets::none(wide),
+    }
+}
+
 // The functions that it may call, as far as the table tells; for a prim all functions.
 pub fn callees(t: &[u64], wide: bool, file: &[u8], host: &[u64; 16], at: usize) -> Set
     requires { ⌜ wordCount wide ≤ length (now t) ⌝ }

@@ -9,6 +9,7 @@ use indexing::notes::NAMES_GREW;
 use indexing::notes::NEWS_GREW;
 use indexing::notes::OBJECTS_GREW;
 use indexing::notes::SCOPES_GREW;
+use indexing::notes::SEERS;
 use indexing::notes::THROWN_GREW;
 use indexing::notes::VARIABLES_GREW;
 use indexing::notes::has;
@@ -42,6 +43,17 @@ fn lacks_news(wide: bool, t: &[u64], file: &[u8], notes: &[u64; 256], at: usize)
     !sets::is_within(wide, set_at(notes, NEWS_GREW), held(t, wide, file, at, 2))
 }
 
+// Whether a load looks in a label in which something was stored: one on the chain of its w, or of a label that its object holds.
+fn sees_owner(wide: bool, t: &[u64], file: &[u8], notes: &[u64; 256], at: usize) -> bool
+    requires { ⌜ wordCount wide ≤ length (now t) ⌝ }
+{
+    if among(file, notes, SEERS, at, 5) {
+        return true;
+    }
+    let seen = sets::meet(wide, set_at(notes, SEERS), held(t, wide, file, at, 3));
+    !sets::is_empty(wide, seen)
+}
+
 // Whether a scope lacks something that is thrown.
 fn lacks_thrown(wide: bool, t: &[u64], file: &[u8], notes: &[u64; 256], at: usize) -> bool
     requires { ⌜ wordCount wide ≤ length (now t) ⌝ }
@@ -60,7 +72,7 @@ fn lacks_handed(wide: bool, t: &[u64], file: &[u8], notes: &[u64; 256], at: usiz
     !sets::is_within(wide, set_at(notes, HANDED_GREW), held(t, wide, file, at, 2))
 }
 
-// A load: its object or a chain grew, or something was stored that its variable lacks.
+// A load: its object or a chain grew, or something was stored where it looks and its variable lacks it.
 fn wakes_load(
     wide: bool,
     t: &[u64],
@@ -78,7 +90,9 @@ fn wakes_load(
         return true;
     }
     if names_grew(file, host, notes, at) {
-        return lacks_news(wide, t, file, notes, at);
+        if sees_owner(wide, t, file, notes, at) {
+            return lacks_news(wide, t, file, notes, at);
+        }
     }
     false
 }

@@ -1,0 +1,17 @@
+-- A turn for each label. Assumes nothing.
+use borrow.Author.Needs.{needs}
+use Prim.Native.Nat.{_≤_, _-_}
+use Rattle.search.proofs.rounds.note_seers.Statement.{statement}
+use Rattle.search.proofs.rounds.note_seers.Tie as tie
+
+abbrev Inv-loop : tie.InvT-loop
+Inv-loop t wide notes₀ owners n l₀ notes l = l ≤ n
+
+abbrev μ-loop : tie.MeasureT-loop
+μ-loop t wide notes₀ owners n l₀ notes l = n - l
+
+pub note-seers-spec : {M : Type 1} → statement M
+note-seers-spec =
+    tie.close (tie.spec Inv-loop μ-loop (λ c κs. search needs) (λ c κs. search needs) (λ c. search needs) (λ c κs. search needs)
+    (λ c κs. search needs) (λ c κs. search needs) (λ c κs. search needs) (λ c κs. search needs) (λ c κs. search needs) (λ c. search needs)
+    (λ c. search needs) (λ c. search needs) (λ c. search needs))
