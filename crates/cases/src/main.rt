@@ -9,18 +9,14 @@ use rows::TABLE_WORDS;
 fn judge(file: &[u8]) -> bool {
     let mut table = [0u64; TABLE_WORDS];
     desk::print_verdict(file, false, &mut table)
-        && report::print(
-            pezvoran::examine_small(file, &table),
-            false,
-            sets::none(false),
-        )
+        && report::print(pezvoran::examine(file, &table), false, sets::none(false))
 }
 
 fn judge_large(file: &[u8]) -> bool {
     let mut table = [0u64; LARGE_TABLE_WORDS];
     desk::print_verdict(file, true, &mut table)
         && report::print(
-            pezvoran::examine_large(file, &table),
+            pezvoran_large::examine(file, &table),
             true,
             sets::none(true),
         )

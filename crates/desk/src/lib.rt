@@ -12,7 +12,7 @@ ghost use Rattle.lent.specs.Table.{wordCount};
 pub fn print_verdict(file: &[u8], wide: bool, table: &mut [u64]) -> bool
     requires { ⌜ wordCount wide ≤ length (now table) ⌝ }
 {
-    let answer = pezvoran::judge(file, wide, table);
+    let answer = operations::judge(file, wide, table);
     let bag = lent::row(table, 0, wide, 1);
     report::print(answer, wide, bag)
 }

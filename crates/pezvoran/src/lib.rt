@@ -1,65 +1,12 @@
-// The operations as a C program calls them: bytes and words in, one word out, in the edition of 64 labels or of 256. The answer inside is an enum; one
-// definition gives document 01's number and values for each of its cases (crate answer), and the contracts go by it.
+// The operations of the edition of 64 labels, as a C program calls them: bytes and a table in, one word out.
 use answer::Answer;
-use rows::LARGE_TABLE_WORDS;
 use rows::TABLE_WORDS;
-use sets::Set;
 ghost use mathlib.Core.Path.{_≡_};
-ghost use Prim.Native.Nat.{_*_, _<_, _≤_};
 ghost use lib.ListN.{length};
-ghost use lib.Count.{trailingZeros};
-ghost use Rattle.rows.specs.Edition.{labels, words};
-ghost use Rattle.rows.specs.Run.{roomFor, rowsOf};
 ghost use Rattle.answer.specs.Outcome.{packed};
 ghost use Rattle.answer.specs.Answer.{outcomeOf};
-ghost use Rattle.verdicts.specs.Verdict.{verdictOutcome, verdictTable, verdictWords};
+ghost use Rattle.verdicts.specs.Verdict.{verdictOutcome, verdictTable};
 ghost use Rattle.verdicts.specs.Check.{checkOutcome};
-ghost use Rattle.sets.specs.Value.{value};
-ghost use Rattle.lent.specs.Table.{wordCount};
-ghost use Rattle.pezvoran.specs.Judgment.{judgment};
-
-// The label of the guest: an answer names it beside a label that the guest holds.
-const GUEST: u8 = 3;
-
-// The lowest label of a set that has one.
-fn lowest_label(wide: bool, s: Set) -> u8
-    requires { ⌜ 0 < value wide s ⌝ }
-    ensures { λ r. ⌜ r ≡ trailingZeros (labels wide) (value wide s) ⌝ }
-{
-    let l = sets::lowest(wide, s);
-    l.0
-}
-
-// What the forbidden labels in the guest's bag and the number of facts amount to.
-fn judged(wide: bool, held: Set, count: u32) -> Answer
-    ensures { λ r. ⌜ outcomeOf r ≡ judgment (labels wide) (value wide held) count ⌝ }
-{
-    if sets::is_empty(wide, held) {
-        return Answer::Confined(count);
-    }
-    Answer::Leaks(lowest_label(wide, held), GUEST, count)
-}
-
-// The verdict on a file in either edition; the least table is left in the lent words.
-pub fn judge(file: &[u8], wide: bool, table: &mut [u64]) -> Answer
-    ensures { λ r. ⌜ outcomeOf r ≡ verdictOutcome (labels wide) (roomFor (words wide) (now (table .entry))) (now (file .entry)) ⌝ }
-    ensures { λ _. ⌜ now (table .exit) ≡ verdictWords (words wide) (labels wide) (now (file .entry)) (now (table .entry)) ⌝ }
-{
-    let full = rows::word_count(wide);
-    if table.len() < full {
-        return Answer::Refused(8, 0);
-    }
-    let r = reader::read(file, wide);
-    let no = r.refusal;
-    let at = r.position;
-    if no != 0 {
-        return Answer::Refused(no, at);
-    }
-    let sheet = r.sheet;
-    solver::solve(file, sheet, wide, table);
-    let held = whole::held(table, wide, sheet.forbidden);
-    judged(wide, held, whole::count(table, wide))
-}
 
 // The verdict, for C: see `packed` in the crate answer for the word.
 #[no_mangle]
@@ -67,58 +14,15 @@ pub extern "C" fn verdict(file: &[u8], table: &mut [u64]) -> u64
     ensures { λ r. ⌜ r ≡ packed (verdictOutcome 64 (length (now (table .entry))) (now (file .entry))) ⌝ }
     ensures { λ _. ⌜ now (table .exit) ≡ verdictTable 64 (now (file .entry)) (now (table .entry)) ⌝ }
 {
-    answer::pack(judge(file, false, table))
-}
-
-// The verdict of the edition of 256 labels.
-#[no_mangle]
-pub extern "C" fn verdict_large(file: &[u8], table: &mut [u64]) -> u64
-    ensures { λ r. ⌜ r ≡ packed (verdictOutcome 256 (roomFor 4 (now (table .entry))) (now (file .entry))) ⌝ }
-    ensures { λ _. ⌜ now (table .exit) ≡ verdictWords 4 256 (now (file .entry)) (now (table .entry)) ⌝ }
-{
-    answer::pack(judge(file, true, table))
-}
-
-// The check of a finished table in either edition; `room` is for two tables, and what stood there counts for nothing.
-fn examine(file: &[u8], wide: bool, table: &[u64], room: &mut [u64]) -> Answer
-    requires { ⌜ 2 * wordCount wide ≤ length (now room) ⌝ }
-    ensures { λ r. ⌜ outcomeOf r ≡ checkOutcome (labels wide) (now (file .entry)) (rowsOf (words wide) (now (table .entry))) ⌝ }
-{
-    if table.len() < rows::word_count(wide) {
-        return Answer::Refused(8, 0);
-    }
-    let r = reader::read(file, wide);
-    let no = r.refusal;
-    let at = r.position;
-    if no != 0 {
-        return Answer::Refused(no, at);
-    }
-    let sheet = r.sheet;
-    let gap = checker::lowest_gap(file, sheet, table, wide, room);
-    if gap < rows::row_count(wide) {
-        return Answer::Refused(10, gap);
-    }
-    let held = whole::held(table, wide, sheet.forbidden);
-    if sets::is_empty(wide, held) {
-        return Answer::Accepted(0);
-    }
-    Answer::Holds(lowest_label(wide, held), GUEST)
+    answer::pack(operations::judge(file, false, table))
 }
 
 // The check of a finished table, which is only read.
-pub fn examine_small(file: &[u8], table: &[u64]) -> Answer
+pub fn examine(file: &[u8], table: &[u64]) -> Answer
     ensures { λ r. ⌜ outcomeOf r ≡ checkOutcome 64 (now (file .entry)) (now (table .entry)) ⌝ }
 {
     let mut room = [0u64; 2 * TABLE_WORDS];
-    examine(file, false, table, &mut room)
-}
-
-// The same in the edition of 256 labels.
-pub fn examine_large(file: &[u8], table: &[u64]) -> Answer
-    ensures { λ r. ⌜ outcomeOf r ≡ checkOutcome 256 (now (file .entry)) (rowsOf 4 (now (table .entry))) ⌝ }
-{
-    let mut room = [0u64; 2 * LARGE_TABLE_WORDS];
-    examine(file, true, table, &mut room)
+    operations::examine(file, false, table, &mut room)
 }
 
 // The check, for C.
@@ -126,13 +30,5 @@ pub fn examine_large(file: &[u8], table: &[u64]) -> Answer
 pub extern "C" fn check(file: &[u8], table: &[u64]) -> u64
     ensures { λ r. ⌜ r ≡ packed (checkOutcome 64 (now (file .entry)) (now (table .entry))) ⌝ }
 {
-    answer::pack(examine_small(file, table))
-}
-
-// The check of the edition of 256 labels.
-#[no_mangle]
-pub extern "C" fn check_large(file: &[u8], table: &[u64]) -> u64
-    ensures { λ r. ⌜ r ≡ packed (checkOutcome 256 (now (file .entry)) (rowsOf 4 (now (table .entry)))) ⌝ }
-{
-    answer::pack(examine_large(file, table))
+    answer::pack(examine(file, table))
 }

@@ -8,10 +8,10 @@ use Rattle.pezvoran.proofs.check.Statement.{statement}
 use Rattle.pezvoran.proofs.check.Tie as tie
 
 pack-requires : tie.Need-pack-requires
-pack-requires c κs = subst Ranged (sym (c .examine-small .ensures)) (check-ranged 64 (omega arith) _ _)
+pack-requires c κs = subst Ranged (sym (c .examine .ensures)) (check-ranged 64 (omega arith) _ _)
 
 returns : tie.Need-returns
-returns c = c .pack .ensures ∙ ap packed (c .before .examine-small .ensures)
+returns c = c .pack .ensures ∙ ap packed (c .before .examine .ensures)
 
 pub check-spec : {M : Type 1} → statement M
 check-spec = tie.close (tie.spec (λ c κs. search needs) pack-requires returns)

@@ -1,11 +1,11 @@
--- `pezvoran::verdict_large` meets its contract. Assumes nothing.
+-- `pezvoran_large::verdict_large` meets its contract. Assumes nothing.
 use mathlib.Core.Path.{sym, ap, subst, _∙_}
 use native.Mathlib.Omega.{arith}
 use Rattle.answer.specs.Outcome.{packed, Ranged}
 use Rattle.verdicts.proofs.Ranged.{verdict-ranged}
 use borrow.Author.Needs.{needs}
-use Rattle.pezvoran.proofs.verdict_large.Statement.{statement}
-use Rattle.pezvoran.proofs.verdict_large.Tie as tie
+use Rattle.pezvoran_large.proofs.verdict_large.Statement.{statement}
+use Rattle.pezvoran_large.proofs.verdict_large.Tie as tie
 
 pack-requires : tie.Need-pack-requires
 pack-requires c κs = subst Ranged (sym (c .before .before .judge .ensures .0)) (verdict-ranged 256 (omega arith) _ _)

@@ -30,7 +30,7 @@ use Rattle.whole.proofs.Rows.{same-room, rows-left, rest-left, some-words, shor
 use Rattle.cleaning.proofs.Copies.{cleaned-rows}
 use Rattle.passes.specs.Order.{guestThree}
 use Rattle.solver.specs.Solved.{Solved}
-use Rattle.pezvoran.specs.Judgment.{judgment}
+use Rattle.operations.specs.Judgment.{judgment}
 
 -- ---- a set that is held
 

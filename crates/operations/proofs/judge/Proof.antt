@@ -1,4 +1,4 @@
--- `pezvoran::judge` meets its contract. Assumes nothing.
+-- `operations::judge` meets its contract. Assumes nothing.
 use mathlib.Core.Path.{_≡_, sym, ap, ap₂, _∙_}
 use Prim.Native.Nat.{ℕ, _<_, _≤_}
 use native.Mathlib.Omega.{arith}
@@ -8,11 +8,11 @@ use Rattle.format.specs.Sheet.{Sheet}
 use Rattle.format.specs.Reading.{readFile}
 use Rattle.answer.specs.Outcome.{refused}
 use Rattle.lent.specs.Table.{wordCount}
-use Rattle.pezvoran.specs.Judgment.{judgment}
-use Rattle.pezvoran.proofs.Laws.{held-in, short-outcome, short-words, refused-outcome, refused-words, judged-outcome, left-words}
+use Rattle.operations.specs.Judgment.{judgment}
+use Rattle.operations.proofs.Laws.{held-in, short-outcome, short-words, refused-outcome, refused-words, judged-outcome, left-words}
 use borrow.Author.Needs.{needs}
-use Rattle.pezvoran.proofs.judge.Statement.{statement}
-use Rattle.pezvoran.proofs.judge.Tie as tie
+use Rattle.operations.proofs.judge.Statement.{statement}
+use Rattle.operations.proofs.judge.Tie as tie
 
 returns : tie.Need-returns
 returns c =

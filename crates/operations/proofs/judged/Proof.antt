@@ -1,9 +1,9 @@
--- `pezvoran::judged` meets its contract. Assumes nothing.
+-- `operations::judged` meets its contract. Assumes nothing.
 use mathlib.Core.Path.{refl, sym, _∙_}
-use Rattle.pezvoran.proofs.Laws.{some-held}
+use Rattle.operations.proofs.Laws.{some-held}
 use borrow.Author.Needs.{needs}
-use Rattle.pezvoran.proofs.judged.Statement.{statement}
-use Rattle.pezvoran.proofs.judged.Tie as tie
+use Rattle.operations.proofs.judged.Statement.{statement}
+use Rattle.operations.proofs.judged.Tie as tie
 
 returns : tie.Need-returns
 returns c = rw (sym (c .before .is-empty .ensures) ∙ c .if1 .taken) refl
