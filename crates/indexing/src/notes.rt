@@ -96,6 +96,9 @@ pub const NEAR_STORED: u64 = 4;
 // all rows that grew
 pub const ALL: u64 = 5;
 
+// 1 where a round over what the last record stored was in vain, and none over what was stored has grown something since
+pub const VAIN: usize = 102;
+
 // ---- numbers
 
 pub fn number(x: u64) -> usize {

@@ -29,6 +29,7 @@ use indexing::notes::SCOPES_GREW;
 use indexing::notes::SEERS;
 use indexing::notes::STAGE;
 use indexing::notes::THROWN_GREW;
+use indexing::notes::VAIN;
 use indexing::notes::VARIABLES_GREW;
 use indexing::notes::add;
 use indexing::notes::has;
@@ -57,7 +58,7 @@ fn stage_after(notes: &[u64; 256]) -> u64 {
         return if notes[RECENT] == 0 { ALL } else { LAST };
     }
     if stage == LAST {
-        return LAST_STORED;
+        return if notes[VAIN] == 0 { LAST_STORED } else { NEAR };
     }
     if stage == LAST_STORED {
         return NEAR;
@@ -66,6 +67,20 @@ fn stage_after(notes: &[u64; 256]) -> u64 {
         return NEAR_STORED;
     }
     if stage == NEAR_STORED { ALL } else { 0 }
+}
+
+// Notes whether a round over what the last record stored is worth its while: not where the last one was in vain, until another round finds something stored.
+fn note_vain(notes: &mut [u64; 256]) {
+    let stage = notes[STAGE];
+    if notes[GREW] == 0 {
+        if stage == LAST_STORED {
+            notes[VAIN] = 1;
+        }
+    } else {
+        if stage == NEAR_STORED {
+            notes[VAIN] = 0;
+        }
+    }
 }
 
 // Nothing grew, so far.
@@ -200,6 +215,7 @@ pub fn begin_round(
     if notes[ENDED] != 1 {
         return false;
     }
+    note_vain(notes);
     let stage = stage_after(notes);
     notes[STAGE] = stage;
     notes[GREW] = 0;
