@@ -37,13 +37,5 @@ returns c =
 
 pub chain-line-spec : {M : Type 1} → statement M
 chain-line-spec =
-    tie.close
-    (tie.spec
-    (λ c κs. search needs)
-    row-requires
-    (λ c κs. search needs)
-    (λ c κs. search needs)
-    (λ c κs. search needs)
-    join-requires
-    (λ c. search needs)
-    returns)
+    tie.close (tie.spec (λ c κs. search needs) row-requires (λ c κs. search needs) (λ c κs. search needs) (λ c κs. search needs)
+    join-requires (λ c. search needs) returns)

@@ -23,9 +23,6 @@ Inv-loop t₀ o wide types keeps₀ count grew₀ l₀ t keeps grew l =
 abbrev μ-loop : tie.MeasureT-loop
 μ-loop t₀ o wide types keeps₀ count grew₀ l₀ t keeps grew l = count - l
 
-labels-requires : tie.Need-labels-requires Inv-loop μ-loop
-labels-requires c κs = search needs
-
 loop-holds : tie.Need-loop-holds Inv-loop μ-loop
 loop-holds c = (refl, search needs, λ p e. lines-none (declared (p .sheet)) (chainRule (p .sheet)))
 
@@ -37,12 +34,6 @@ declared-line-requires c κs =
     let start = count .before .before in
     (rw (loop .loop .inv .0) (start .pre), rw (count .labels .ensures .0) at (turn .loop-test .taken))
 
-add-l : tie.Need-add-l Inv-loop μ-loop
-add-l c = search needs
-
-loop-less : tie.Need-loop-less Inv-loop μ-loop
-loop-less c = search needs
-
 loop-again : tie.Need-loop-again Inv-loop μ-loop
 loop-again c =
     let line = c .before .before in
@@ -52,9 +43,6 @@ loop-again c =
       search needs,
       λ p e. lines-next (declared (p .sheet)) (chainRule (p .sheet)) (loop .loop .l) (start .pre .apart) (loop .loop .inv .2 p e) (line .declared-line .ensures p e),
     )
-
-same-length : tie.Need-same-length Inv-loop μ-loop
-same-length c = search needs
 
 returns : tie.Need-returns Inv-loop μ-loop
 returns c =
@@ -66,15 +54,5 @@ returns c =
 
 pub chain-lines-spec : {M : Type 1} → statement M
 chain-lines-spec =
-    tie.close
-    (tie.spec
-    Inv-loop
-    μ-loop
-    labels-requires
-    loop-holds
-    declared-line-requires
-    add-l
-    loop-less
-    loop-again
-    same-length
-    returns)
+    tie.close (tie.spec Inv-loop μ-loop (λ c κs. search needs) loop-holds declared-line-requires (λ c. search needs)
+    (λ c. search needs) loop-again (λ c. search needs) returns)

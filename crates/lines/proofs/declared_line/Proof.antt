@@ -31,4 +31,5 @@ returns-2 c =
     λ p e. type-chain (a .types .now) (getD (a .types .now) (a .l) 0) (a .l) (start .pre .1) e refl (other .if1 .left) (line .chain-line .ensures p)
 
 pub declared-line-spec : {M : Type 1} → statement M
-declared-line-spec = tie.close (tie.spec element-copy-out-kind returns cast-t10 (λ c κs. search needs) (λ c. search needs) returns-2)
+declared-line-spec =
+    tie.close (tie.spec element-copy-out-kind returns cast-t10 (λ c κs. search needs) (λ c. search needs) returns-2)

@@ -21,4 +21,5 @@ returns c =
     (rw (own .single .ensures, second .single2 .ensures) at (c .union .ensures)) (parent .parent-of .ensures .0)
 
 pub first-on-spec : {M : Type 1} → statement M
-first-on-spec = tie.close (tie.spec (λ c κs. search needs) (λ c κs. search needs) single-requires-2 (λ c κs. search needs) returns)
+first-on-spec =
+    tie.close (tie.spec (λ c κs. search needs) (λ c κs. search needs) single-requires-2 (λ c κs. search needs) returns)
