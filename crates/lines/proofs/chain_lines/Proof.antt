@@ -1,6 +1,6 @@
 -- The chains of all declared labels, one after the other. Assumes nothing.
 use borrow.Author.Needs.{needs}
-use mathlib.Core.Path.{_≡_, refl}
+use mathlib.Core.Path.{_≡_}
 use native.Mathlib.Omega.{arith}
 use Prim.Native.Nat.{_-_, _≤_}
 use lib.ListN.{length, take}
@@ -22,9 +22,6 @@ Inv-loop t₀ o wide types keeps₀ count grew₀ l₀ t keeps grew l =
 
 abbrev μ-loop : tie.MeasureT-loop
 μ-loop t₀ o wide types keeps₀ count grew₀ l₀ t keeps grew l = count - l
-
-loop-holds : tie.Need-loop-holds Inv-loop μ-loop
-loop-holds c = (refl, search needs, λ p e. lines-none (declared (p .sheet)) (chainRule (p .sheet)))
 
 declared-line-requires : tie.Need-declared-line-requires Inv-loop μ-loop
 declared-line-requires c κs =
@@ -54,5 +51,5 @@ returns c =
 
 pub chain-lines-spec : {M : Type 1} → statement M
 chain-lines-spec =
-    tie.close (tie.spec Inv-loop μ-loop (λ c κs. search needs) loop-holds declared-line-requires (λ c. search needs)
-    (λ c. search needs) loop-again (λ c. search needs) returns)
+    tie.close (tie.spec Inv-loop μ-loop (λ c κs. search needs) (λ c. search (needs, lines-none)) declared-line-requires
+    (λ c. search needs) (λ c. search needs) loop-again (λ c. search needs) returns)
