@@ -1,6 +1,6 @@
 -- The rules of a readable file name rows of the table and labels below L. Assumes nothing.
-use mathlib.Core.Path.{_≡_, refl, sym, subst}
-use mathlib.Core.Logic.{_⊎_, inl, inr}
+use mathlib.Core.Path.{refl, sym, subst}
+use mathlib.Core.Logic.{inl, inr}
 use mathlib.Core.List.{List, [], _∷_, map, List·Memᴰ, List·Memᴰ·head, List·Memᴰ·tail, List·Memᴰ·cases-cons, List·Memᴰ·not-nil}
 use mathlib.Core.Bool.{Bool, true, false, not}
 use Prim.Native.Nat.{ℕ, zero, suc, _+_, _*_, _<_, _≤_}
@@ -23,11 +23,7 @@ use Rattle.analysis.proofs.Returned.{returns-below}
 
 -- each number of a short list
 pub in-list : (P : ℕ → Type 0) (x : ℕ) (xs : List ℕ) → P x → ((m : ℕ) → List·Memᴰ m xs → P m) → (m : ℕ) → List·Memᴰ m (x ∷ xs) → P m
-in-list P x xs d h m i = go (List·Memᴰ·cases-cons i)
-  where
-    go : (m ≡ x) ⊎ List·Memᴰ m xs → P m
-    go (inl e) = subst P (sym e) d
-    go (inr j) = h m j
+in-list P x xs d h m i = elim (List·Memᴰ·cases-cons i) [ inl e ↦ subst P (sym e) d | inr j ↦ h m j ]
 
 pub in-none : (P : ℕ → Type 0) (m : ℕ) → List·Memᴰ m [] → P m
 in-none P m i = absurd (List·Memᴰ·not-nil i)
@@ -48,11 +44,11 @@ when-fits L false a f = tt
 
 module _ (L : ℕ) (p : Program) (o : Proper L p) where
   formals-below : (f i : ℕ) → getD (formalsOf (p .sheet) f) i 0 < 256
-  formals-below f i = go (decLt i 6)
-    where
-      go : Dec (i < 6) → getD (formalsOf (p .sheet) f) i 0 < 256
-      go (yes h) = rw (getD-take 6 (drop (7 * f + 1) (p .sheet .formals)) i 0 h, getD-drop) (o .formal-below (7 * f + 1 + i))
-      go (no h) = rw (List·getD-eq-default (formalsOf (p .sheet) f) 0 {n = i} (rw length-take (omega arith))) (omega arith)
+  formals-below f i =
+      elim (decLt i 6) [
+        | yes h ↦ rw (getD-take 6 (drop (7 * f + 1) (p .sheet .formals)) i 0 h, getD-drop) (o .formal-below (7 * f + 1 + i))
+        | no h ↦ rw (List·getD-eq-default (formalsOf (p .sheet) f) 0 {n = i} (rw length-take (omega arith))) (omega arith)
+      ]
 
   looking-fits : (y key l : ℕ) → y < 256 → Keyed (p .sheet) key → l < L → Fits L (looking p y key l)
   looking-fits y key l hy hk hl = (hl, λ m hm n i. (hy, (hm, hk n i)))

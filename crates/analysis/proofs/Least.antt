@@ -67,11 +67,11 @@ module _ (L : ℕ) (p : Program) (o : Proper L p) where
 
   -- and in one of the table's rows
   pub table-row : (r l : ℕ) → Has (leastTable L p) r l → r < rowCount L
-  table-row r l h = go (decLt r (rowCount L))
-    where
-      go : Dec (r < rowCount L) → r < rowCount L
-      go (yes i) = i
-      go (no d) = absurd (empty-off l (rw (List·getD-eq-default (leastTable L p) 0 {n = r} (omega (arith, table-length))) at h))
+  table-row r l h =
+      elim (decLt r (rowCount L)) [
+        | yes i ↦ i
+        | no d ↦ absurd (empty-off l (rw (List·getD-eq-default (leastTable L p) 0 {n = r} (omega (arith, table-length))) at h))
+      ]
 
   -- "the fact count is the number of these": the length of a list that has each of them once; all words are counted, and there are no more than
   -- L facts a row

@@ -15,7 +15,6 @@ use Rattle.format.proofs.Ready.{Made}
 use Rattle.format.proofs.Later.{declared-below}
 use Rattle.format.proofs.Readable.{readable-ready, formal-below}
 use Rattle.program.specs.Statement as say
-use Rattle.program.specs.Statement.{bag}
 use Rattle.analysis.proofs.Stated.{Declared, AllStated, stated-append, start-declared, top-declared, guest-declared, host-stated, guest-stated}
 use Rattle.program.specs.Program.{Program, Guest, guestsStatements, hostStatements, guestsOf, programOf, statements}
 

@@ -73,11 +73,11 @@ in-returns f (a ∷ ss) v at i = go (List·Memᴰ·cases-cons i) (in-returns f s
 -- the variables handed back are variables
 stated-at : (s : Sheet) (ss : List (ℕ × say.Statement)) → AllStated s ss → (at : ℕ) (a : say.Statement) → List·Memᴰ (at, a) ss → Stated s a
 stated-at s [] h at a i = absurd (List·Memᴰ·not-nil i)
-stated-at s (b ∷ ss) h at a i = go (List·Memᴰ·cases-cons i) (stated-at s ss (h .1) at a)
-  where
-    go : ((at, a) ≡ b) ⊎ List·Memᴰ {A = ℕ × say.Statement} (at, a) ss → (List·Memᴰ {A = ℕ × say.Statement} (at, a) ss → Stated s a) → Stated s a
-    go (inl e) rest = subst (λ (x : ℕ × say.Statement). Stated s (x .1)) (sym e) (h .0)
-    go (inr j) rest = rest j
+stated-at s (b ∷ ss) h at a i =
+    elim (List·Memᴰ·cases-cons i) [
+      | inl e ↦ subst (λ (x : ℕ × say.Statement). Stated s (x .1)) (sym e) (h .0)
+      | inr j ↦ stated-at s ss (h .1) at a j
+    ]
 
 pub returns-below : (L : ℕ) (p : Program) → Proper L p → (f v : ℕ) → List·Memᴰ v (returnsOf p f) → v < 256
 unfolding returnsOf

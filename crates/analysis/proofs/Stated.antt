@@ -108,18 +108,14 @@ module _ (L : ℕ) (s : Sheet) (ps : List (ℕ × Record)) (m : Made L s ps) whe
   of-plain b e = type-declared b 1 (omega arith) (and-second (leb 5 b) _ e)
 
   of-data : (b : ℕ) → (leb 5 b && (eqb (typeOf s b) 1 || eqb (typeOf s b) 3)) ≡ true → Declared s b
-  of-data b e = go (or-true (eqb (typeOf s b) 1) _ (and-second (leb 5 b) _ e))
-    where
-      go : (eqb (typeOf s b) 1 ≡ true) ⊎ (eqb (typeOf s b) 3 ≡ true) → Declared s b
-      go (inl q) = type-declared b 1 (omega arith) q
-      go (inr q) = type-declared b 3 (omega arith) q
+  of-data b e =
+      elim (or-true (eqb (typeOf s b) 1) _ (and-second (leb 5 b) _ e)) [
+        | inl q ↦ type-declared b 1 (omega arith) q
+        | inr q ↦ type-declared b 3 (omega arith) q
+      ]
 
   of-scope : (b : ℕ) → (eqb b 0 || (leb 5 b && eqb (typeOf s b) 2)) ≡ true → Declared s b
-  of-scope b e = go (or-true (eqb b 0) _ e)
-    where
-      go : (eqb b 0 ≡ true) ⊎ ((leb 5 b && eqb (typeOf s b) 2) ≡ true) → Declared s b
-      go (inl q) = subst (Declared s) (sym (eqb-true b 0 q)) top-declared
-      go (inr q) = of-function b q
+  of-scope b e = elim (or-true (eqb b 0) _ e) [ inl q ↦ subst (Declared s) (sym (eqb-true b 0 q)) top-declared | inr q ↦ of-function b q ]
 
   of-key : (b : ℕ) → (ltb b 32 || (leb 128 b && leb b 135)) ≡ true → Keyed s b
   of-key b e = key-names s b (go (or-true (ltb b 32) _ e))
@@ -129,11 +125,7 @@ module _ (L : ℕ) (s : Sheet) (ps : List (ℕ × Record)) (m : Made L s ps) whe
       go (inr q) = inr (leb-true 128 b (and-first _ _ q))
 
   of-name : (b : ℕ) → (eqb b 255 || ltb b 32) ≡ true → eqb b 255 ≡ false → b < 32
-  of-name b e n = go (or-true (eqb b 255) _ e)
-    where
-      go : (eqb b 255 ≡ true) ⊎ (ltb b 32 ≡ true) → b < 32
-      go (inl q) = absurd (true≢false (sym q ∙ n))
-      go (inr q) = ltb-true b 32 q
+  of-name b e n = elim (or-true (eqb b 255) _ e) [ inl q ↦ absurd (true≢false (sym q ∙ n)) | inr q ↦ ltb-true b 32 q ]
 
   of-new : (b : ℕ) → (leb 2 b && leb b 255) ≡ true → b < 256
   of-new b e = omega (arith, leb-true b 255 (and-second (leb 2 b) _ e))
@@ -144,11 +136,11 @@ module _ (L : ℕ) (s : Sheet) (ps : List (ℕ × Record)) (m : Made L s ps) whe
   of-variables zero [] f v i = absurd (List·Memᴰ·not-nil i)
   of-variables zero (a ∷ vs) f v i = absurd f
   of-variables (suc n) [] f v i = absurd f
-  of-variables (suc n) (a ∷ vs) f v i = go (List·Memᴰ·cases-cons i) (of-variables n vs (f .1) v)
-    where
-      go : (v ≡ a) ⊎ List·Memᴰ v vs → (List·Memᴰ v vs → v < 256) → v < 256
-      go (inl e) rest = omega (arith, of-variable a (f .0))
-      go (inr j) rest = rest j
+  of-variables (suc n) (a ∷ vs) f v i =
+      elim (List·Memᴰ·cases-cons i) [
+        | inl e ↦ omega (arith, of-variable a (f .0))
+        | inr j ↦ of-variables n vs (f .1) v j
+      ]
 
 fits-drop : (L : ℕ) (s : Sheet) (n : ℕ) (cs : List Class) (bs : List ℕ) → Fits L s cs bs → Fits L s (drop n cs) (drop n bs)
 unfolding Fits
@@ -261,11 +253,7 @@ module _ (L : ℕ) (s : Sheet) (ps : List (ℕ × Record)) (m : Made L s ps) whe
     where
       below : (n : ℕ) → AllBelow (replicate n 1)
       below zero v i = absurd (List·Memᴰ·not-nil i)
-      below (suc n) v i = go (List·Memᴰ·cases-cons i) (below n v)
-        where
-          go : (v ≡ 1) ⊎ List·Memᴰ v (replicate n 1) → (List·Memᴰ v (replicate n 1) → v < 256) → v < 256
-          go (inl e) rest = omega arith
-          go (inr j) rest = rest j
+      below (suc n) v i = elim (List·Memᴰ·cases-cons i) [ inl e ↦ omega arith | inr j ↦ below n v j ]
 
       six : AllBelow (replicate 6 1)
       six = below 6

@@ -1,7 +1,7 @@
 -- Document 01's traps ("Listed files", last lines), each as a law of the rules that a wrong rule breaks; beside them that "every member's P" is
 -- followed. A closed table is one that already holds all that the rules say of it. Assumes nothing.
 use mathlib.Core.Path.{_≡_, refl, sym, subst}
-use mathlib.Core.Logic.{_⊎_, inl, inr}
+use mathlib.Core.Logic.{inl, inr}
 use mathlib.Core.List.{List, [], _∷_, map, List·Memᴰ, List·Memᴰ·cases-cons, List·Memᴰ·not-nil}
 use mathlib.Core.Bool.{Bool, true, false, not}
 use Prim.Native.Nat.{ℕ, _<_}
@@ -26,12 +26,11 @@ module _ (L : ℕ) (p : Program) (t : Table) where
       → Closed L t (every (map (λ (r : ℕ × Rule). r .1) (map (λ (a : ℕ × say.Statement). (a .0, ruleOf p (a .1))) ss)))
       → (at : ℕ) (a : say.Statement) → List·Memᴰ (at, a) ss → Closed L t (ruleOf p a)
   statements-closed [] c at a i = absurd (List·Memᴰ·not-nil i)
-  statements-closed (b ∷ ss) c at a i = go (List·Memᴰ·cases-cons i) (statements-closed ss (c .1) at a)
-    where
-      go : ((at, a) ≡ b) ⊎ List·Memᴰ {A = ℕ × say.Statement} (at, a) ss → (List·Memᴰ {A = ℕ × say.Statement} (at, a) ss → Closed L t (ruleOf p a))
-          → Closed L t (ruleOf p a)
-      go (inl e) rest = subst (λ (x : ℕ × say.Statement). Closed L t (ruleOf p (x .1))) (sym e) (c .0)
-      go (inr j) rest = rest j
+  statements-closed (b ∷ ss) c at a i =
+      elim (List·Memᴰ·cases-cons i) [
+        | inl e ↦ subst (λ (x : ℕ × say.Statement). Closed L t (ruleOf p (x .1))) (sym e) (c .0)
+        | inr j ↦ statements-closed ss (c .1) at a j
+      ]
 
   module _ (c : Closed L t (rules L p)) where
     -- a table that is closed for all rules is closed for those of each statement

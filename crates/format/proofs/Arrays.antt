@@ -18,11 +18,11 @@ padded (x ∷ xs) n a (suc i) = padded xs n a i
 -- after a store at one place in two arrays: what holds of the new entries, and of the old ones at every other place, holds everywhere
 pub after-stores : (P : ℕ → ℕ → ℕ → Type 0) (xs ys : List ℕ) (i x y d e : ℕ) → i < length xs → i < length ys → P i x y
     → ((j : ℕ) → (j ≡ i → ⊥) → P j (getD xs j d) (getD ys j e)) → (j : ℕ) → P j (getD (set xs i x) j d) (getD (set ys i y) j e)
-after-stores P xs ys i x y d e hx hy p q j = go (ℕ-discrete j i)
-  where
-    go : Dec (j ≡ i) → P j (getD (set xs i x) j d) (getD (set ys i y) j e)
-    go (yes r) = rw (r, getD-set-same xs i x d hx, getD-set-same ys i y e hy) p
-    go (no r) = rw (getD-set-other xs i j x d r, getD-set-other ys i j y e r) (q j r)
+after-stores P xs ys i x y d e hx hy p q j =
+    elim (ℕ-discrete j i) [
+      | yes r ↦ rw (r, getD-set-same xs i x d hx, getD-set-same ys i y e hy) p
+      | no r ↦ rw (getD-set-other xs i j x d r, getD-set-other ys i j y e r) (q j r)
+    ]
 
 -- the same in one array
 pub after-store : (P : ℕ → ℕ → Type 0) (xs : List ℕ) (i x d : ℕ) → i < length xs → P i x → ((j : ℕ) → (j ≡ i → ⊥) → P j (getD xs j d))

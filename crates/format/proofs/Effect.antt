@@ -49,18 +49,10 @@ function-of s l e =
     record { from-five = leb-true _ _ (and-first _ _ e); is-function = eqb-true _ _ (and-second (leb 5 l) _ e) }
 
 pub scope-of : (s : Sheet) (k : ℕ) → (eqb k 0 || (leb 5 k && eqb (typeOf s k) 2)) ≡ true → (k ≡ 0) ⊎ Function (s .types) k
-scope-of s k e = go (or-true (eqb k 0) _ e)
-  where
-    go : (eqb k 0 ≡ true) ⊎ ((leb 5 k && eqb (typeOf s k) 2) ≡ true) → (k ≡ 0) ⊎ Function (s .types) k
-    go (inl p) = inl (eqb-true _ _ p)
-    go (inr p) = inr (function-of s k p)
+scope-of s k e = elim (or-true (eqb k 0) _ e) [ inl p ↦ inl (eqb-true _ _ p) | inr p ↦ inr (function-of s k p) ]
 
 pub variable-of : (s : Sheet) (v : ℕ) → (eqb v 0 || known s v) ≡ true → Variable s v
-variable-of s v e = go (or-true (eqb v 0) _ e)
-  where
-    go : (eqb v 0 ≡ true) ⊎ (known s v ≡ true) → Variable s v
-    go (inl p) = inl (eqb-true _ _ p)
-    go (inr p) = inr (not-equal _ _ p)
+variable-of s v e = elim (or-true (eqb v 0) _ e) [ inl p ↦ inl (eqb-true _ _ p) | inr p ↦ inr (not-equal _ _ p) ]
 
 -- the owner k and the name n go together
 pub name-of : (k n : ℕ) → (eqb n 255 || ltb n 32) ≡ true → (not (eqb k 0) && not (eqb n 255)) ≡ false → (n ≡ 255) ⊎ ((n < 32) × (k ≡ 0))

@@ -104,11 +104,11 @@ complete-read L xs c =
 module _ (L : ℕ) (xs : List ℕ) where
   -- a file that is too long is refused with 9 at position 0, every other by its ending
   by-length : (P : Reading → Type 0) → (longest < length xs → P (stopped (start L) 9 0)) → (Ending L xs → P (readFile L xs)) → P (readFile L xs)
-  by-length P long other = go (decLe (length xs) longest)
-    where
-      go : Dec (length xs ≤ longest) → P (readFile L xs)
-      go (yes h) = other (ending L xs h)
-      go (no h) = subst P (sym (too-long L xs (omega arith))) (long (omega arith))
+  by-length P long other =
+      elim (decLe (length xs) longest) [
+        | yes h ↦ other (ending L xs h)
+        | no h ↦ subst P (sym (too-long L xs (omega arith))) (long (omega arith))
+      ]
 
   pub file-refusal-small : readFile L xs .refusal < 10
   file-refusal-small = by-length (λ (d : Reading). d .refusal < 10) (λ _. omega arith) go

@@ -19,11 +19,11 @@ start-formal-is L i h = getD-replicate (7 * L) i 1 0 h
 
 start-formal-small : (L i : ℕ) → getD (start L .formals) i 0 ≤ 1
 unfolding start
-start-formal-small L i = go (decLt i (7 * L))
-  where
-    go : Dec (i < 7 * L) → getD (replicate (7 * L) 1) i 0 ≤ 1
-    go (yes h) = omega (arith, getD-replicate {A = ℕ} (7 * L) i 1 0 h)
-    go (no h) = omega (arith, List·getD-eq-default {A = ℕ} (replicate (7 * L) 1) 0 {n = i} (omega (arith, length-replicate {A = ℕ} (7 * L) 1)))
+start-formal-small L i =
+    elim (decLt i (7 * L)) [
+      | yes h ↦ omega (arith, getD-replicate {A = ℕ} (7 * L) i 1 0 h)
+      | no h ↦ omega (arith, List·getD-eq-default {A = ℕ} (replicate (7 * L) 1) 0 {n = i} (omega (arith, length-replicate {A = ℕ} (7 * L) 1)))
+    ]
 
 -- at the start only label 3's function is known
 abbrev pub startDefined : List ℕ

@@ -31,11 +31,7 @@ pub record Sized (L : ℕ) (s : Sheet) : Type 0 where
 
 -- what is not the default stands at an index of the list
 pub inside : (xs : List ℕ) (i d : ℕ) → (getD xs i d ≡ d → ⊥) → i < length xs
-inside xs i d h = go (decLt i (length xs))
-  where
-    go : Dec (i < length xs) → i < length xs
-    go (yes p) = p
-    go (no p) = absurd (h (List·getD-eq-default xs d (omega arith)))
+inside xs i d h = elim (decLt i (length xs)) [ yes p ↦ p | no p ↦ absurd (h (List·getD-eq-default xs d (omega arith))) ]
 
 -- a store where nothing but the default stood leaves all else that is said as it is
 pub set-keeps : (xs : List ℕ) (i x d j : ℕ) → getD xs i d ≡ d → (getD xs j d ≡ d → ⊥) → getD (set xs i x) j d ≡ getD xs j d

@@ -17,7 +17,7 @@ use Rattle.format.proofs.Tests.{or-false}
 use Rattle.format.proofs.Effect.{Function}
 use Rattle.format.proofs.Later.{inside}
 use Rattle.format.proofs.File.{Read, readable-read, read-is}
-use Rattle.format.proofs.Ready.{Among, Held, sevenOf, Made, Ready}
+use Rattle.format.proofs.Ready.{Among, sevenOf, Made, Ready}
 use Rattle.format.proofs.Made.{made-start, made-all}
 
 -- where no label lacks its function, every label of type 2 has one
@@ -49,11 +49,11 @@ module _ (L : ℕ) (s : Sheet) (ps : List (ℕ × Record)) (m : Made L s ps) whe
   masked-below n d = omega (arith, inside (s .masks) n 0 d, m .sized .masks-length)
 
   pub formal-below : (i : ℕ) → getD (s .formals) i 0 < 256
-  formal-below i = go (m .functions .formal-known i)
-    where
-      go : Held (s .owners) (getD (s .formals) i 0) → getD (s .formals) i 0 < 256
-      go (inl h) = omega arith
-      go (inr h) = m .variables .variable-range (getD (s .formals) i 0) h .1
+  formal-below i =
+      elim (m .functions .formal-known i) [
+        | inl h ↦ omega arith
+        | inr h ↦ m .variables .variable-range (getD (s .formals) i 0) h .1
+      ]
 
 -- a function label from 5 up has its record, with the seven variables that the sheet holds for it
 pub function-has-record : (L : ℕ) (s : Sheet) (ps : List (ℕ × Record)) → Ready L s ps → (l : ℕ) → Function (s .types) l

@@ -73,18 +73,14 @@ whole-or-bad L s at xs = let c = cut L s xs in go (c .rest) (c .records) (c .byt
         })
 
 pub read-whole : (L : ℕ) (s : Sheet) (at : ℕ) (xs : List ℕ) → readFrom L s at xs .refusal ≡ 0 → Whole L s at xs
-read-whole L s at xs e = go (whole-or-bad L s at xs)
-  where
-    go : Whole L s at xs ⊎ FirstBad L s at xs → Whole L s at xs
-    go (inl w) = w
-    go (inr b) = absurd (b .refused (sym (ap (λ (d : Reading). d .refusal) (b .read)) ∙ e))
+read-whole L s at xs e =
+    elim (whole-or-bad L s at xs) [
+      | inl w ↦ w
+      | inr b ↦ absurd (b .refused (sym (ap (λ (d : Reading). d .refusal) (b .read)) ∙ e))
+    ]
 
 pub read-bad : (L : ℕ) (s : Sheet) (at : ℕ) (xs : List ℕ) → (readFrom L s at xs .refusal ≡ 0 → ⊥) → FirstBad L s at xs
-read-bad L s at xs h = go (whole-or-bad L s at xs)
-  where
-    go : Whole L s at xs ⊎ FirstBad L s at xs → FirstBad L s at xs
-    go (inl w) = absurd (h (ap (λ (d : Reading). d .refusal) (w .read)))
-    go (inr b) = b
+read-bad L s at xs h = elim (whole-or-bad L s at xs) [ inl w ↦ absurd (h (ap (λ (d : Reading). d .refusal) (w .read))) | inr b ↦ b ]
 
 -- what is added behind a file without a refusal is read from the sheet that the file made
 pub append-reads : (L : ℕ) (s : Sheet) (at : ℕ) (a b : List ℕ) → readFrom L s at a .refusal ≡ 0

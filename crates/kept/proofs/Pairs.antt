@@ -16,7 +16,7 @@ use Rattle.rows.specs.Run.{number}
 use Rattle.lent.specs.Table.{place}
 use Rattle.lent.specs.Stored.{Stored}
 use Rattle.lent.proofs.Views.{other-row}
-use Rattle.kept.specs.Pairs.{pairCount, keptSet, keptWith, Stays, Refreshed, Cleared, Subset, Asks, part, held, all, Leaves, some, Learns, wider, anew}
+use Rattle.kept.specs.Pairs.{pairCount, keptSet, keptWith, Stays, Refreshed, Cleared, Subset, Asks, part, held, Leaves, some, Learns, wider, anew}
 
 pub pair-small : (wide : Bool) (pair : ℕ) → pair < pairCount wide → pair < 128
 pair-small true pair h = omega arith

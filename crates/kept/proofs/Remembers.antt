@@ -123,11 +123,11 @@ names-fit false e = omega arith
 -- where there is room for 32 pairs
 pub forgets-first : {before after : List ℕ} (wide : Bool) → not wide ≡ false → Cleared wide 0 17 before after → (q : ℕ) → q < pairCount wide
     → Forgets wide before after q
-forgets-first {before} {after} true e c q j = go (decLt q 17)
-  where
-    go : Dec (q < 17) → Forgets true before after q
-    go (yes h) = inl (c .empty q (omega arith) h)
-    go (no h) = inr (c .above q (omega (arith, h)), no-union q (omega (arith, h)) (inl j))
+forgets-first {before} {after} true e c q j =
+    elim (decLt q 17) [
+      | yes h ↦ inl (c .empty q (omega arith) h)
+      | no h ↦ inr (c .above q (omega (arith, h)), no-union q (omega (arith, h)) (inl j))
+    ]
 forgets-first false e c q j = never (sym e)
 
 -- where there is room for 128, those of single names too

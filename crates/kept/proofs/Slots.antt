@@ -56,16 +56,12 @@ module _ (q : ℕ) where
 
   -- the pairs that are not forgotten are no unions
   pub no-union : 17 ≤ q → (q < 32) ⊎ (64 ≤ q) → Union (slotOf q) → ⊥
-  no-union h (inl i) u = go (decLt q 24)
-    where
-      go : Dec (q < 24) → ⊥
-      go (yes a) = rw (slot-inputs h a refl) at u
-      go (no a) = rw (slot-stored-class (omega (arith, a)) i refl) at u
-  no-union h (inr i) u = go (decLt q 96)
-    where
-      go : Dec (q < 96) → ⊥
-      go (yes a) = rw (slot-stored-name i a refl) at u
-      go (no a) = rw (slot-unused (omega (arith, a))) at u
+  no-union h (inl i) u =
+      elim (decLt q 24) [
+        | yes a ↦ rw (slot-inputs h a refl) at u
+        | no a ↦ rw (slot-stored-class (omega (arith, a)) i refl) at u
+      ]
+  no-union h (inr i) u = elim (decLt q 96) [ yes a ↦ rw (slot-stored-name i a refl) at u | no a ↦ rw (slot-unused (omega (arith, a))) at u ]
 
 pub slot-input : (j : ℕ) → j < 7 → slotOf (17 + j) ≡ input j
 slot-input j h = slot-inputs (17 + j) (omega arith) (omega arith) (omega arith)

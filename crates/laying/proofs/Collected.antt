@@ -89,11 +89,7 @@ by-more rs front f x (inr i) = inr (Memᴰ·append-left (front ∷ []) i)
 
 by-cases : (rs : List Record) (front : Record) (f x : ℕ) → By (rs ++ (front ∷ [])) f x → By rs f x ⊎ (returning f x ≡ front)
 by-cases rs front f x (inl q) = inl (inl q)
-by-cases rs front f x (inr i) = go (List·Memᴰ·append-cases rs i)
-  where
-    go : List·Memᴰ (returning f x) rs ⊎ List·Memᴰ (returning f x) (front ∷ []) → By rs f x ⊎ (returning f x ≡ front)
-    go (inl j) = inl (inr j)
-    go (inr j) = inr (List·Memᴰ·eq-of-singleton j)
+by-cases rs front f x (inr i) = elim (List·Memᴰ·append-cases rs i) [ inl j ↦ inl (inr j) | inr j ↦ inr (List·Memᴰ·eq-of-singleton j) ]
 
 -- a return
 collected-return : {r u : Returns} {rs : List Record} (front : Record) (k v : ℕ) → front ≡ returning k v → v < 256 → Marked k v r u → Collected r rs
@@ -168,22 +164,20 @@ module _ {L : ℕ} {file : List ℕ} {at : ℕ} (w : Walk L file at) (h : at < l
 positioned-in : (at : ℕ) (rs : List Record) (a : ℕ) (r : Record) → List·Memᴰ (a, r) (positioned at rs) → List·Memᴰ r rs
 unfolding positioned
 positioned-in at [] a r i = absurd (List·Memᴰ·not-nil i)
-positioned-in at (q ∷ rs) a r i = go (List·Memᴰ·cases-cons i) (positioned-in (at + 1 + length (q .body)) rs a r)
-  where
-    go : (_≡_ {A = ℕ × Record} (a, r) (at, q)) ⊎ List·Memᴰ {A = ℕ × Record} (a, r) (positioned (at + 1 + length (q .body)) rs)
-        → (List·Memᴰ {A = ℕ × Record} (a, r) (positioned (at + 1 + length (q .body)) rs) → List·Memᴰ r rs) → List·Memᴰ r (q ∷ rs)
-    go (inl e) rest = List·Memᴰ·head (ap (λ (p : ℕ × Record). p .1) e)
-    go (inr j) rest = List·Memᴰ·tail (rest j)
+positioned-in at (q ∷ rs) a r i =
+    elim (List·Memᴰ·cases-cons i) [
+      | inl e ↦ List·Memᴰ·head (ap (λ (p : ℕ × Record). p .1) e)
+      | inr j ↦ List·Memᴰ·tail (positioned-in (at + 1 + length (q .body)) rs a r j)
+    ]
 
 in-positioned : (at : ℕ) (rs : List Record) (r : Record) → List·Memᴰ r rs → (a : ℕ) × List·Memᴰ (a, r) (positioned at rs)
 unfolding positioned
 in-positioned at [] r i = absurd (List·Memᴰ·not-nil i)
-in-positioned at (q ∷ rs) r i = go (List·Memᴰ·cases-cons i) (in-positioned (at + 1 + length (q .body)) rs r)
-  where
-    go : (r ≡ q) ⊎ List·Memᴰ r rs → (List·Memᴰ r rs → (a : ℕ) × List·Memᴰ (a, r) (positioned (at + 1 + length (q .body)) rs))
-        → (a : ℕ) × List·Memᴰ (a, r) ((at, q) ∷ positioned (at + 1 + length (q .body)) rs)
-    go (inl e) rest = (at, List·Memᴰ·head (ap (λ (s : Record). (at, s)) e))
-    go (inr j) rest = let p = rest j in (p .0, List·Memᴰ·tail (p .1))
+in-positioned at (q ∷ rs) r i =
+    elim (List·Memᴰ·cases-cons i) [
+      | inl e ↦ (at, List·Memᴰ·head (ap (λ (s : Record). (at, s)) e))
+      | inr j ↦ (let p = in-positioned (at + 1 + length (q .body)) rs r j in (p .0, List·Memᴰ·tail (p .1)))
+    ]
 
 pub collected-all : {L : ℕ} {file : List ℕ} {at : ℕ} {r : Returns} → 5 ≤ L → L ≤ 256 → Readable L file → (w : Walk L file at) → length file ≤ at
     → Collected r (w .done) → ReturnsOf (programOf (readFile L file)) r

@@ -80,19 +80,11 @@ module _ (wide : Bool) (p : Program) (first kind l : ℕ) {held on : ℕ} {old t
     (holds : held ≡ getD t (number (labels wide) (chain l)) 0) (is-first : (m : ℕ) → On first m ↔ ((m ≡ l) ⊎ List·Memᴰ m (parentsOf kind))) where
   -- what is joined is told
   joined-told : (r q : ℕ) → r ≡ number (labels wide) (chain l) → On first q ⊎ On on q → Told (labels wide) t (chainBy kind l) r q
-  joined-told r q e (inl h) = go (is-first q .0 h)
-    where
-      go : (q ≡ l) ⊎ List·Memᴰ q (parentsOf kind) → Told (labels wide) t (chainBy kind l) r q
-      go (inl g) = inl (omega arith, e, g)
-      go (inr g) = inr (inl (q, g, (omega arith, e, refl)))
+  joined-told r q e (inl h) = elim (is-first q .0 h) [ inl g ↦ inl (omega arith, e, g) | inr g ↦ inr (inl (q, g, (omega arith, e, refl))) ]
   joined-told r q e (inr h) = let b = a .source q h in inr (inr (b .0, rw (← holds) (b .1), (omega arith, e, b .2)))
 
   member-told : (m q : ℕ) → On held m → Has old (number (labels wide) (chain m)) q → On on q
-  member-told m q h g = go (a .all m q h g)
-    where
-      go : On on q ⊎ On 0 q → On on q
-      go (inl b) = b
-      go (inr b) = absurd (empty-off q b)
+  member-told m q h g = elim (a .all m q h g) [ inl b ↦ b | inr b ↦ absurd (empty-off q b) ]
 
   -- what is told is joined
   told-joined : Within old t → (r q : ℕ) → Told (labels wide) old (chainBy kind l) r q → (r ≡ number (labels wide) (chain l)) × (On first q ⊎ On on q)

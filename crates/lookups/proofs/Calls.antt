@@ -67,11 +67,11 @@ module _ {wide : Bool} {o : ℕ} {p : Program} (fs : ℕ) where
       forth a i r l (inr h) = (j, omega arith, h)
 
       back : (a : Table) → Within a (tableOf wide t) → (r l : ℕ) → handingAll wide p fs inputs (j + 1) a r l → handingAll wide p fs inputs j a r l ⊎ handing wide p fs j (inputs j) a r l
-      back a i r l h = go (ℕ-discrete (h .0) j)
-        where
-          go : Dec (h .0 ≡ j) → handingAll wide p fs inputs j a r l ⊎ handing wide p fs j (inputs j) a r l
-          go (yes e) = inr (subst (λ (k : ℕ). handing wide p fs k (inputs k) a r l) e (h .2))
-          go (no d) = inl (h .0, omega (arith, d, h .1), h .2)
+      back a i r l h =
+          elim (ℕ-discrete (h .0) j) [
+            | yes e ↦ inr (subst (λ (k : ℕ). handing wide p fs k (inputs k) a r l) e (h .2))
+            | no d ↦ inl (h .0, omega (arith, d, h .1), h .2)
+          ]
 
 -- ---- the formals of a function
 
@@ -210,11 +210,7 @@ module _ {wide : Bool} {o : ℕ} {p : Program} (y c x l : ℕ) where
           (g .0, i c (g .0) (rw is-held at (g .1)), (h .2 .0, i (number (labels wide) (chain (g .0))) (h .2 .0) (g .2), (h .0, h .1, three (h .2 .2 .1) (h .2 .2 .2))))
         where
           three : {n : ℕ} → List·Memᴰ n (3 ∷ []) → Has a (number (labels wide) (property (h .2 .0) n)) q → Has a (number (labels wide) (property (h .2 .0) 3)) q
-          three {n} i j = go (List·Memᴰ·cases-cons i)
-            where
-              go : (n ≡ 3) ⊎ List·Memᴰ n [] → Has a (number (labels wide) (property (h .2 .0) 3)) q
-              go (inl e) = rw e at j
-              go (inr m) = absurd (List·Memᴰ·not-nil m)
+          three {n} i j = elim (List·Memᴰ·cases-cons i) [ inl e ↦ rw e at j | inr m ↦ absurd (List·Memᴰ·not-nil m) ]
 
       back : (a : Table) → Within a (tableOf wide v) → ((f m : ℕ) → On held f → Tells wide p chains a f m → On on m) → (r q : ℕ) → Found a r q
           → gathering wide p (number (labels wide) (chain l)) (under 3) on a r q

@@ -56,11 +56,7 @@ module _ {wide : Bool} {o : ℕ} {p : Program} {host : List ℕ} (k x : ℕ) whe
     remembers old since m = second o old since (first o old since (chained o old since m .1) .1) .1
 
     one : (n i : ℕ) → List·Memᴰ n (i ∷ []) → n ≡ i
-    one n i m = go (List·Memᴰ·cases-cons m)
-      where
-        go : (n ≡ i) ⊎ List·Memᴰ n [] → n ≡ i
-        go (inl e) = e
-        go (inr j) = absurd (List·Memᴰ·not-nil j)
+    one n i m = elim (List·Memᴰ·cases-cons m) [ inl e ↦ e | inr j ↦ absurd (List·Memᴰ·not-nil j) ]
 
     found : {old : Table} → Was old → (a : Table) → Within (tableOf wide t) a → (f : ℕ) → On fs f → Finding wide x a f
     unfolding namesOf

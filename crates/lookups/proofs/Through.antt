@@ -18,11 +18,7 @@ use Rattle.shared.specs.Apply.{Applies}
 
 -- nothing was held already
 pub told-all : {F : Table → ℕ → ℕ → Type 0} {old t : Table} {s r : ℕ} → Answer F old t s 0 r → (l m : ℕ) → On s l → F old l m → On r m
-told-all {F} {old} {t} {s} {r} a l m h i = go (a .all l m h i)
-  where
-    go : On r m ⊎ On 0 m → On r m
-    go (inl o) = o
-    go (inr o) = absurd (empty-off m o)
+told-all {F} {old} {t} {s} {r} a l m h i = elim (a .all l m h i) [ inl o ↦ o | inr o ↦ absurd (empty-off m o) ]
 
 -- T is what is done with the set `on` that was told for s; S is what is done with s
 pub applies-through : {wide : Bool} {o s on : ℕ} {p : Program} {T S : Table → ℕ → ℕ → Type 0} {t u keeps kept left : List ℕ} {grew : Bool} (slot : Slot)

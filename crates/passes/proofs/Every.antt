@@ -1,5 +1,5 @@
 -- Rules of a list, used one after the other. Assumes nothing.
-use mathlib.Core.Path.{_≡_, refl, sym, subst}
+use mathlib.Core.Path.{_≡_}
 use mathlib.Core.Logic.{_⊎_, inl, inr}
 use mathlib.Core.Bool.{Bool, false, _||_}
 use mathlib.Core.List.{List, [], _∷_, _++_}
@@ -24,11 +24,7 @@ module _ (L : ℕ) (t : Table) (r l : ℕ) where
   pub append-told : (ps qs : List Rule) → Told L t (every (ps ++ qs)) r l → Told L t (every ps) r l ⊎ Told L t (every qs) r l
   append-told [] qs h = inr h
   append-told (p ∷ ps) qs (inl h) = inl (inl h)
-  append-told (p ∷ ps) qs (inr h) = go (append-told ps qs h)
-    where
-      go : Told L t (every ps) r l ⊎ Told L t (every qs) r l → Told L t (every (p ∷ ps)) r l ⊎ Told L t (every qs) r l
-      go (inl g) = inl (inr g)
-      go (inr g) = inr g
+  append-told (p ∷ ps) qs (inr h) = elim (append-told ps qs h) [ inl g ↦ inl (inr g) | inr g ↦ inr g ]
 
 module _ {wide : Bool} {o : ℕ} {p : Program} where
   pub applies-none : {t keeps : List ℕ} (ps : List Rule) → ps ≡ [] → Applies wide o p (tells wide (every ps)) t keeps t keeps false

@@ -1,5 +1,5 @@
 -- The rules of the file's program, in the order of a pass. Assumes nothing.
-use mathlib.Core.Path.{_≡_, refl, sym, subst}
+use mathlib.Core.Path.{sym, subst}
 use mathlib.Core.Logic.{_⊎_, inl, inr}
 use mathlib.Core.Bool.{Bool, _||_}
 use mathlib.Core.List.{List, [], _∷_, map}
@@ -7,7 +7,7 @@ use Prim.Native.Nat.{ℕ}
 use Rattle.rows.specs.Edition.{labels}
 use Rattle.rows.specs.Row.{chain}
 use Rattle.rules.specs.Table.{Table}
-use Rattle.rules.specs.Rule.{Rule, give, over, every, _also_}
+use Rattle.rules.specs.Rule.{Rule, give, over, every}
 use Rattle.rules.specs.Told.{Told}
 use Rattle.rules.proofs.Told.{told-monotone}
 use Rattle.format.specs.Reading.{readFile}

@@ -2,7 +2,7 @@
 -- least one above the rows, with the same words behind it. Assumes nothing.
 use mathlib.Core.Path.{_≡_, ap, sym, _∙_}
 use mathlib.Core.List.{_++_}
-use Prim.Native.Nat.{ℕ, _+_, _-_, _^_, _≤_, _<_}
+use Prim.Native.Nat.{ℕ, _+_, _-_, _≤_, _<_}
 use native.Mathlib.Decide.{decLt}
 use native.Mathlib.Omega.{arith}
 use lib.ListN.{length, getD, length-append, List·getD-append, List·getD-eq-default}
@@ -37,22 +37,21 @@ behind a b r h =
     sym (ap (λ (n : ℕ). getD (a ++ b) n 0) e) ∙ getD-append-add a b (r - length a) 0
 
 append-small : (L : ℕ) (a b : Table) → Small L a → Small L b → Small L (a ++ b)
-append-small L a b sa sb r = go (decLt r (length a))
-  where
-    go : Dec (r < length a) → getD (a ++ b) r 0 < 2 ^ L
-    go (yes i) = rw (List·getD-append a b 0 r i) (sa r)
-    go (no d) = rw (behind a b r (omega arith)) (sb (r - length a))
+append-small L a b sa sb r =
+    elim (decLt r (length a)) [
+      | yes i ↦ rw (List·getD-append a b 0 r i) (sa r)
+      | no d ↦ rw (behind a b r (omega arith)) (sb (r - length a))
+    ]
 
 pub append-shaped : (L : ℕ) (a b : Table) → Shaped L a → Small L b → Shaped L (a ++ b)
 append-shaped L a b s sb = record { long = rw length-append (omega (arith, s .long)); small = append-small L a b (s .small) sb }
 
 append-within : (a b u v : Table) → length a ≡ length u → Within a u → Within b v → Within (a ++ b) (u ++ v)
-append-within a b u v e w x r l h = go (decLt r (length a))
-  where
-    go : Dec (r < length a) → Has (u ++ v) r l
-    go (yes i) = rw (List·getD-append u v 0 r (rw (← e) i)) (w r l (rw (List·getD-append a b 0 r i) at h))
-    go (no d) =
-        rw (behind u v r (rw (← e) (omega arith)), ← e) (x (r - length a) l (rw (behind a b r (omega arith)) at h))
+append-within a b u v e w x r l h =
+    elim (decLt r (length a)) [
+      | yes i ↦ rw (List·getD-append u v 0 r (rw (← e) i)) (w r l (rw (List·getD-append a b 0 r i) at h))
+      | no d ↦ rw (behind u v r (rw (← e) (omega arith)), ← e) (x (r - length a) l (rw (behind a b r (omega arith)) at h))
+    ]
 
 module _ (L : ℕ) (p : Rule) (fits : Fits L p) (a b : Table) (s : Shaped L a) (sb : Small L b) where
   rows : Table

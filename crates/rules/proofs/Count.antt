@@ -52,20 +52,19 @@ row-length r (l ∷ ls) = ap suc (row-length r ls)
 
 in-row : (r : ℕ) (ls : List ℕ) (f : ℕ × ℕ) → List·Memᴰ f (rowFacts r ls) → (f .0 ≡ r) × List·Memᴰ (f .1) ls
 in-row r [] f i = absurd (List·Memᴰ·not-nil i)
-in-row r (l ∷ ls) f i = go (List·Memᴰ·cases-cons i) (in-row r ls f)
-  where
-    go : (f ≡ (r, l)) ⊎ List·Memᴰ f (rowFacts r ls) → (List·Memᴰ f (rowFacts r ls) → (f .0 ≡ r) × List·Memᴰ (f .1) ls)
-        → (f .0 ≡ r) × List·Memᴰ (f .1) (l ∷ ls)
-    go (inl e) rest = (ap (λ (x : ℕ × ℕ). x .0) e, List·Memᴰ·head (ap (λ (x : ℕ × ℕ). x .1) e))
-    go (inr j) rest = let q = rest j in (q .0, List·Memᴰ·tail (q .1))
+in-row r (l ∷ ls) f i =
+    elim (List·Memᴰ·cases-cons i) [
+      | inl e ↦ (ap (λ (x : ℕ × ℕ). x .0) e, List·Memᴰ·head (ap (λ (x : ℕ × ℕ). x .1) e))
+      | inr j ↦ (let q = in-row r ls f j in (q .0, List·Memᴰ·tail (q .1)))
+    ]
 
 row-has : (r l : ℕ) (ls : List ℕ) → List·Memᴰ l ls → List·Memᴰ (r, l) (rowFacts r ls)
 row-has r l [] i = absurd (List·Memᴰ·not-nil i)
-row-has r l (m ∷ ls) i = go (List·Memᴰ·cases-cons i) (row-has r l ls)
-  where
-    go : (l ≡ m) ⊎ List·Memᴰ l ls → (List·Memᴰ l ls → List·Memᴰ (r, l) (rowFacts r ls)) → List·Memᴰ (r, l) ((r, m) ∷ rowFacts r ls)
-    go (inl e) rest = List·Memᴰ·head (ap (λ (x : ℕ). (r, x)) e)
-    go (inr j) rest = List·Memᴰ·tail (rest j)
+row-has r l (m ∷ ls) i =
+    elim (List·Memᴰ·cases-cons i) [
+      | inl e ↦ List·Memᴰ·head (ap (λ (x : ℕ). (r, x)) e)
+      | inr j ↦ List·Memᴰ·tail (row-has r l ls j)
+    ]
 
 row-distinct : (r : ℕ) (ls : List ℕ) → Distinct ls → Distinct (rowFacts r ls)
 row-distinct r [] d = tt

@@ -1,9 +1,9 @@
 -- The least table above t holds exactly the facts that the rule derives from t. Assumes nothing.
-use mathlib.Core.Logic.{_⊎_, inl, inr, _↔_}
+use mathlib.Core.Logic.{inl, inr, _↔_}
 use Prim.Native.Nat.{ℕ}
 use Rattle.rules.specs.Table.{Table, Has, Within, Shaped}
 use Rattle.rules.specs.Rule.{Rule}
-use Rattle.rules.specs.Told.{Told, Closed, Fits, Derives, started, follows}
+use Rattle.rules.specs.Told.{Closed, Fits, Derives, started, follows}
 use Rattle.rules.specs.Round.{round, enoughRounds, leastAbove}
 use Rattle.rules.proofs.Told.{told-within}
 use Rattle.rules.proofs.Round.{round-has}
@@ -20,11 +20,7 @@ least-derives L p t =
     settle-keeps L p (λ v. (r l : ℕ) → Has v r l → Derives L p t r l) step (enoughRounds L) t (λ r l h. started h)
   where
     step : (v : Table) → ((r l : ℕ) → Has v r l → Derives L p t r l) → (r l : ℕ) → Has (round L p v) r l → Derives L p t r l
-    step v d r l h = go (round-has L p v r l h)
-      where
-        go : Has v r l ⊎ Told L v p r l → Derives L p t r l
-        go (inl g) = d r l g
-        go (inr g) = follows v d g
+    step v d r l h = elim (round-has L p v r l h) [ inl g ↦ d r l g | inr g ↦ follows v d g ]
 
 pub least-holds : (L : ℕ) (p : Rule) → Fits L p → (t : Table) → Shaped L t → (r l : ℕ) → Has (leastAbove L p t) r l ↔ Derives L p t r l
 least-holds L p fits t s r l = (

@@ -176,11 +176,7 @@ finds-only {L} {t} {p} {a} one other = order (below one other) (below other one)
     order h g = omega arith
 
     below : {m n : ℕ} → Finds L t p a m → Finds L t p a n → m ≤ n
-    below {m} {n} f g = go (g .found)
-      where
-        go : (n ≡ a) ⊎ Enlarges L t p n → m ≤ n
-        go (inl e) = omega (arith, f .not-higher)
-        go (inr e) = f .lowest n e
+    below {m} {n} f g = elim (g .found) [ inl e ↦ omega (arith, f .not-higher) | inr e ↦ f .lowest n e ]
 
 module _ (L : ℕ) (t : Table) (small : Small L t) (p : Rule) (fits : Fits L p) where
   pub gap-finds : (a : ℕ) → Finds L t p a (gapBelow L t p a)
@@ -204,11 +200,7 @@ module _ (L : ℕ) (t : Table) (small : Small L t) (p : Rule) (fits : Fits L p) 
   -- the row of the gap would grow
   pub gap-enlarges : gap L t p < rowCount L → Enlarges L t p (gap L t p)
   unfolding gap
-  gap-enlarges h = go (gap-finds (rowCount L) .found)
-    where
-      go : (gap L t p ≡ rowCount L) ⊎ Enlarges L t p (gap L t p) → Enlarges L t p (gap L t p)
-      go (inl e) = absurd (omega arith)
-      go (inr g) = g
+  gap-enlarges h = elim (gap-finds (rowCount L) .found) [ inl e ↦ absurd (omega arith) | inr g ↦ g ]
 
   -- where there is no gap, the table is closed
   pub no-gap-closed : rowCount L ≤ gap L t p → Closed L t p
@@ -221,8 +213,8 @@ module _ (L : ℕ) (t : Table) (small : Small L t) (p : Rule) (fits : Fits L p) 
   -- and of a closed table there is none
   pub closed-no-gap : Closed L t p → gap L t p ≡ rowCount L
   unfolding gap
-  closed-no-gap c = go (gap-finds (rowCount L) .found)
-    where
-      go : (gap L t p ≡ rowCount L) ⊎ Enlarges L t p (gap L t p) → gap L t p ≡ rowCount L
-      go (inl e) = e
-      go (inr g) = absurd (g .2 (closed-told L t p c (gap L t p) (g .0) (g .1)))
+  closed-no-gap c =
+      elim (gap-finds (rowCount L) .found) [
+        | inl e ↦ e
+        | inr g ↦ absurd (g .2 (closed-told L t p c (gap L t p) (g .0) (g .1)))
+      ]

@@ -90,11 +90,7 @@ join-cases (suc y) w a r = go (ℕ-discrete r (suc y)) (decLt (suc y) (length a)
     go (yes e) (no i) = inl (rw (join-is (suc y) w a z, set-out a (suc y) (union (getD a (suc y) 0) w) (omega arith)))
 
 pub join-keeps : (y w : ℕ) (a : Table) → Within a (join y w a)
-join-keeps y w a r l h = go (join-cases y w a r)
-  where
-    go : (getD (join y w a) r 0 ≡ getD a r 0) ⊎ ((0 < y) × (r ≡ y) × (getD (join y w a) r 0 ≡ union (getD a r 0) w)) → Has (join y w a) r l
-    go (inl e) = rw e h
-    go (inr e) = rw (e .2) (on-left (getD a r 0) w l h)
+join-keeps y w a r l h = elim (join-cases y w a r) [ inl e ↦ rw e h | inr e ↦ rw (e .2) (on-left (getD a r 0) w l h) ]
 
 pub has-join : (y w : ℕ) (a : Table) (r l : ℕ) → Has (join y w a) r l → Has a r l ⊎ ((0 < y) × (r ≡ y) × On w l)
 has-join y w a r l h = go (join-cases y w a r)
@@ -112,12 +108,7 @@ pub join-tells : (y w : ℕ) (a : Table) → 0 < y → y < length a → (l : ℕ
 join-tells y w a z i l o = rw (joined y w a z i) (on-right (getD a y 0) w l o)
 
 pub join-small : (L y w : ℕ) (a : Table) → w < 2 ^ L → Small L a → Small L (join y w a)
-join-small L y w a h s r = go (join-cases y w a r)
-  where
-    go : (getD (join y w a) r 0 ≡ getD a r 0) ⊎ ((0 < y) × (r ≡ y) × (getD (join y w a) r 0 ≡ union (getD a r 0) w))
-        → getD (join y w a) r 0 < 2 ^ L
-    go (inl e) = rw e (s r)
-    go (inr e) = rw (e .2) (union-lt L (getD a r 0) w (s r) h)
+join-small L y w a h s r = elim (join-cases y w a r) [ inl e ↦ rw e (s r) | inr e ↦ rw (e .2) (union-lt L (getD a r 0) w (s r) h) ]
 
 -- ---- whether it grew
 

@@ -20,11 +20,7 @@ use Rattle.rules.specs.Round.{keep, places, labels}
 
 keep-cases : (b i x : ℕ) (xs : List ℕ) → List·Memᴰ x (keep b i xs) → ((x ≡ i) × (1 ≤ b)) ⊎ List·Memᴰ x xs
 keep-cases zero i x xs m = inr m
-keep-cases (suc b) i x xs m = go (List·Memᴰ·cases-cons m)
-  where
-    go : (x ≡ i) ⊎ List·Memᴰ x xs → ((x ≡ i) × (1 ≤ suc b)) ⊎ List·Memᴰ x xs
-    go (inl e) = inl (e, omega arith)
-    go (inr h) = inr h
+keep-cases (suc b) i x xs m = elim (List·Memᴰ·cases-cons m) [ inl e ↦ inl (e, omega arith) | inr h ↦ inr h ]
 
 keep-head : (b i : ℕ) (xs : List ℕ) → 1 ≤ b → List·Memᴰ i (keep b i xs)
 keep-head zero i xs h = absurd (omega arith)
@@ -38,13 +34,11 @@ place-on : (d i w x : ℕ) → List·Memᴰ x (places d i w) → (k : ℕ) × (x
 unfolding places
 place-on zero i w x m = absurd (List·Memᴰ·not-nil m)
 place-on (suc d) i zero x m = absurd (List·Memᴰ·not-nil m)
-place-on (suc d) i (suc w) x m = go (keep-cases (suc w % 2) i x (places d (suc i) (suc w / 2)) m) (place-on d (suc i) (suc w / 2) x)
-  where
-    go : ((x ≡ i) × (1 ≤ suc w % 2)) ⊎ List·Memᴰ x (places d (suc i) (suc w / 2))
-        → (List·Memᴰ x (places d (suc i) (suc w / 2)) → (k : ℕ) × (x ≡ suc i + k) × (k < d) × On (suc w / 2) k)
-        → (k : ℕ) × (x ≡ i + k) × (k < suc d) × On (suc w) k
-    go (inl e) ih = (0, omega arith, omega arith, omega (arith, bit-low (suc w)))
-    go (inr h) ih = let r = ih h in (suc (r .0), omega (arith, r .1), omega (arith, r .2), bit-half (suc w) (r .0) ∙ r .3)
+place-on (suc d) i (suc w) x m =
+    elim (keep-cases (suc w % 2) i x (places d (suc i) (suc w / 2)) m) [
+      | inl e ↦ (0, omega arith, omega arith, omega (arith, bit-low (suc w)))
+      | inr h ↦ (let r = place-on d (suc i) (suc w / 2) x h in (suc (r .0), omega (arith, r .1), omega (arith, r .2), bit-half (suc w) (r .0) ∙ r .3))
+    ]
 
 on-place : (d i w k : ℕ) → k < d → On w k → List·Memᴰ (i + k) (places d i w)
 unfolding places

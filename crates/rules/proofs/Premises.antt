@@ -21,12 +21,11 @@ use Rattle.rules.proofs.Table.{has-label}
 
 gathered : (f : ℕ → List PremiseSet) (xs : List ℕ) (s : PremiseSet) → List·Memᴰ s (gather f xs) → (x : ℕ) × List·Memᴰ x xs × List·Memᴰ s (f x)
 gathered f [] s m = absurd (List·Memᴰ·not-nil m)
-gathered f (x ∷ xs) s m = go (List·Memᴰ·append-cases (f x) m) (gathered f xs s)
-  where
-    go : List·Memᴰ s (f x) ⊎ List·Memᴰ s (gather f xs) → (List·Memᴰ s (gather f xs) → (y : ℕ) × List·Memᴰ y xs × List·Memᴰ s (f y))
-        → (y : ℕ) × List·Memᴰ y (x ∷ xs) × List·Memᴰ s (f y)
-    go (inl q) rest = (x, List·Memᴰ·head refl, q)
-    go (inr q) rest = let r = rest q in (r .0, List·Memᴰ·tail (r .1), r .2)
+gathered f (x ∷ xs) s m =
+    elim (List·Memᴰ·append-cases (f x) m) [
+      | inl q ↦ (x, List·Memᴰ·head refl, q)
+      | inr q ↦ (let r = gathered f xs s q in (r .0, List·Memᴰ·tail (r .1), r .2))
+    ]
 
 in-gather : (f : ℕ → List PremiseSet) (xs : List ℕ) (s : PremiseSet) (x : ℕ) → List·Memᴰ x xs → List·Memᴰ s (f x) → List·Memᴰ s (gather f xs)
 in-gather f [] s x m i = absurd (List·Memᴰ·not-nil m)
@@ -38,20 +37,19 @@ in-gather f (y ∷ xs) s x m i = go (List·Memᴰ·cases-cons m) (λ q. in-gathe
 
 put-first : (f : ℕ × ℕ) (xs : List PremiseSet) (s : PremiseSet) → List·Memᴰ s (after f xs) → (x : PremiseSet) × (s ≡ f ∷ x) × List·Memᴰ x xs
 put-first f [] s m = absurd (List·Memᴰ·not-nil m)
-put-first f (x ∷ xs) s m = go (List·Memᴰ·cases-cons m) (put-first f xs s)
-  where
-    go : (s ≡ f ∷ x) ⊎ List·Memᴰ s (after f xs) → (List·Memᴰ s (after f xs) → (y : PremiseSet) × (s ≡ f ∷ y) × List·Memᴰ y xs)
-        → (y : PremiseSet) × (s ≡ f ∷ y) × List·Memᴰ y (x ∷ xs)
-    go (inl e) rest = (x, e, List·Memᴰ·head refl)
-    go (inr q) rest = let r = rest q in (r .0, r .1, List·Memᴰ·tail (r .2))
+put-first f (x ∷ xs) s m =
+    elim (List·Memᴰ·cases-cons m) [
+      | inl e ↦ (x, e, List·Memᴰ·head refl)
+      | inr q ↦ (let r = put-first f xs s q in (r .0, r .1, List·Memᴰ·tail (r .2)))
+    ]
 
 in-after : (f : ℕ × ℕ) (xs : List PremiseSet) (s : PremiseSet) → List·Memᴰ s xs → List·Memᴰ (f ∷ s) (after f xs)
 in-after f [] s m = absurd (List·Memᴰ·not-nil m)
-in-after f (x ∷ xs) s m = go (List·Memᴰ·cases-cons m) (in-after f xs s)
-  where
-    go : (s ≡ x) ⊎ List·Memᴰ s xs → (List·Memᴰ s xs → List·Memᴰ (f ∷ s) (after f xs)) → List·Memᴰ (f ∷ s) ((f ∷ x) ∷ after f xs)
-    go (inl e) rest = List·Memᴰ·head (ap (λ (z : PremiseSet). f ∷ z) e)
-    go (inr q) rest = List·Memᴰ·tail (rest q)
+in-after f (x ∷ xs) s m =
+    elim (List·Memᴰ·cases-cons m) [
+      | inl e ↦ List·Memᴰ·head (ap (λ (z : PremiseSet). f ∷ z) e)
+      | inr q ↦ List·Memᴰ·tail (in-after f xs s q)
+    ]
 
 tested : (a b c : Bool) (x s : PremiseSet) → List·Memᴰ s (onlyIf (a && (b && c)) (x ∷ [])) → T a × T b × T c × (s ≡ x)
 tested true true true x s m = (tt, tt, tt, List·Memᴰ·eq-of-singleton m)

@@ -7,7 +7,7 @@ use Prim.Native.Nat.{ℕ, _^_, _≤_, _<_}
 use native.Mathlib.Omega.{arith}
 use lib.ListN.{length, getD}
 use lib.Pow.{pow-lt}
-use Rattle.words.proofs.Bits.{On, on-single, single-only}
+use Rattle.words.proofs.Bits.{on-single, single-only}
 use Rattle.rows.specs.Row.{Row, number, rowCount, InTable}
 use Rattle.rows.proofs.Number.{number-bound}
 use Rattle.rules.specs.Table.{Table, Has, Within, Small, Shaped}
@@ -103,11 +103,11 @@ module _ (L : ℕ) (t : Table) (small : Small L t) where
 fire-has : (L : ℕ) (t : Table) (p : Rule) (a : Table) (r l : ℕ) → Has (fire L t p a) r l → Has a r l ⊎ Told L t p r l
 unfolding fire
 fire-has L t none a r l h = inl h
-fire-has L t (give y m) a r l h = go (has-join (number L y) (2 ^ m) a r l h)
-  where
-    go : Has a r l ⊎ ((0 < number L y) × (r ≡ number L y) × On (2 ^ m) l) → Has a r l ⊎ Told L t (give y m) r l
-    go (inl e) = inl e
-    go (inr e) = inr (e .0, e .1, single-only m l (e .2))
+fire-has L t (give y m) a r l h =
+    elim (has-join (number L y) (2 ^ m) a r l h) [
+      | inl e ↦ inl e
+      | inr e ↦ inr (e .0, e .1, single-only m l (e .2))
+    ]
 fire-has L t (include y x) a r l h = has-join (number L y) (getD t (number L x) 0) a r l h
 fire-has L t (each x k) a r l h =
     go (fold-has (λ m b. fire L t (k m) b) (λ m. Told L t (k m) r l) r l (λ m b. fire-has L t (k m) b r l) (labels L (getD t (number L x) 0)) a h)
@@ -136,11 +136,7 @@ module _ (L : ℕ) (p : Rule) where
 
   -- a closed table above stays above
   pub round-within : (t u : Table) → Closed L u p → Within t u → Within (round L p t) u
-  round-within t u c w r l h = go (round-has t r l h)
-    where
-      go : Has t r l ⊎ Told L t p r l → Has u r l
-      go (inl g) = w r l g
-      go (inr g) = told-within L t u p c w r l g
+  round-within t u c w r l h = elim (round-has t r l h) [ inl g ↦ w r l g | inr g ↦ told-within L t u p c w r l g ]
 
 module _ (L : ℕ) (p : Rule) (fits : Fits L p) where
   pub round-keeps : (t : Table) → Small L t → Within t (round L p t)

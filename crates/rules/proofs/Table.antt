@@ -33,11 +33,11 @@ same-facts L t u e st su a b = ext-getD 0 t u e (λ r i. same-row L t u st su r 
 -- ---- the empty table
 
 pub empty-row : (L r : ℕ) → getD (emptyTable L) r 0 ≡ 0
-empty-row L r = go (decLt r (rowCount L))
-  where
-    go : Dec (r < rowCount L) → getD (emptyTable L) r 0 ≡ 0
-    go (yes i) = getD-replicate (rowCount L) r 0 0 i
-    go (no d) = List·getD-eq-default (emptyTable L) 0 (rw length-replicate (omega arith))
+empty-row L r =
+    elim (decLt r (rowCount L)) [
+      | yes i ↦ getD-replicate (rowCount L) r 0 0 i
+      | no d ↦ List·getD-eq-default (emptyTable L) 0 (rw length-replicate (omega arith))
+    ]
 
 pub empty-has : (L r l : ℕ) → Has (emptyTable L) r l → ⊥
 empty-has L r l h = empty-off l (rw (empty-row L r) at h)

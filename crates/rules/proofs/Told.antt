@@ -1,7 +1,7 @@
 -- What rules tell: a table is closed exactly where it holds all that is told of it; more facts, more conclusions; and what is told
 -- stands in a row of the table and not in row 0. Assumes nothing.
-use mathlib.Core.Path.{_≡_, refl, subst, sym}
-use mathlib.Core.Logic.{_⊎_, inl, inr, _↔_}
+use mathlib.Core.Path.{refl, subst, sym}
+use mathlib.Core.Logic.{inl, inr, _↔_}
 use mathlib.Core.List.{List, [], _∷_, List·Memᴰ, List·Memᴰ·head, List·Memᴰ·tail, List·Memᴰ·cases-cons, List·Memᴰ·not-nil}
 use Prim.Native.Nat.{ℕ, _<_}
 use native.Mathlib.Omega.{arith}
@@ -36,11 +36,11 @@ closed-iff-told L t p = (closed-told L t p, told-closed L t p)
 -- a table is closed for a list of rules exactly where it is for each of them
 pub every-closed : (L : ℕ) (t : Table) (ps : List Rule) → Closed L t (every ps) → (p : Rule) → List·Memᴰ p ps → Closed L t p
 every-closed L t [] c p m = absurd (List·Memᴰ·not-nil m)
-every-closed L t (q ∷ ps) c p m = go (List·Memᴰ·cases-cons m) (every-closed L t ps (c .1) p)
-  where
-    go : (p ≡ q) ⊎ List·Memᴰ p ps → (List·Memᴰ p ps → Closed L t p) → Closed L t p
-    go (inl e) rest = subst (λ (x : Rule). Closed L t x) (sym e) (c .0)
-    go (inr i) rest = rest i
+every-closed L t (q ∷ ps) c p m =
+    elim (List·Memᴰ·cases-cons m) [
+      | inl e ↦ subst (λ (x : Rule). Closed L t x) (sym e) (c .0)
+      | inr i ↦ every-closed L t ps (c .1) p i
+    ]
 
 pub closed-every : (L : ℕ) (t : Table) (ps : List Rule) → ((p : Rule) → List·Memᴰ p ps → Closed L t p) → Closed L t (every ps)
 closed-every L t [] h = tt

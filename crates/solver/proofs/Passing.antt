@@ -7,15 +7,14 @@ use Prim.Native.Nat.{ℕ, _<_}
 use native.Mathlib.Omega.{arith}
 use lib.ListN.{length}
 use Rattle.rows.specs.Edition.{labels}
-use Rattle.rules.specs.Table.{facts}
 use Rattle.rules.specs.Told.{Fits}
 use Rattle.program.specs.Program.{Program}
 use Rattle.analysis.specs.Rules.{rules}
-use Rattle.uses.specs.Use.{tableOf, Since, tells, Reached, Used}
+use Rattle.uses.specs.Use.{Since, tells, Reached, Used}
 use Rattle.uses.proofs.Use.{reached-on, reached-read, reached-length}
 use Rattle.kept.specs.Promise.{Remembers}
 use Rattle.kept.proofs.Remembers.{remembers-since}
-use Rattle.whole.proofs.Finished.{reached-small, reached-facts, facts-most}
+use Rattle.whole.proofs.Finished.{reached-small, reached-facts}
 use Rattle.whole.proofs.Solving.{Solving, solving-next, left, solving-less}
 use Rattle.passes.specs.Order.{PassOf}
 use Rattle.solver.specs.Steps.{programIn, Steps, StepsFor}

@@ -1,20 +1,19 @@
 -- What a turn of the search adds is told by the rules of the file. Assumes nothing.
 use mathlib.Core.Path.{_≡_, refl, sym, subst}
-use mathlib.Core.Logic.{_⊎_, inl, inr}
+use mathlib.Core.Logic.{inl, inr}
 use mathlib.Core.Bool.{Bool, true, false, not}
-use mathlib.Core.List.{List, _∷_, _++_, map}
+use mathlib.Core.List.{List}
 use Prim.Native.Nat.{ℕ, zero, suc, _<_}
 use native.Mathlib.Omega.{arith}
 use lib.ListN.{length, getD, replicate}
 use Rattle.rows.specs.Edition.{labels}
-use Rattle.rules.specs.Table.{Table, Within}
+use Rattle.rules.specs.Table.{Table}
 use Rattle.rules.specs.Rule.{Rule, every}
 use Rattle.rules.specs.Told.{Told}
-use Rattle.format.specs.Reading.{readFile}
 use Rattle.format.specs.Records.{Record}
-use Rattle.program.specs.Program.{Program, hostStatements}
-use Rattle.analysis.specs.Rules.{ruleOf, rules}
-use Rattle.uses.specs.Use.{Apart, tableOf, Since, tells, Reached, start}
+use Rattle.program.specs.Program.{Program}
+use Rattle.analysis.specs.Rules.{rules}
+use Rattle.uses.specs.Use.{Since, tells, start}
 use Rattle.uses.proofs.Use.{reached-for, reached-on, reached-read}
 use Rattle.kept.specs.Promise.{Remembers}
 use Rattle.records.specs.Say.{saying, recordRule, ruleBy}
@@ -26,7 +25,7 @@ use Rattle.shared.specs.Apply.{Applies}
 use Rattle.passes.specs.Order.{lineRules, recordRules}
 use Rattle.passes.proofs.Every.{told-append}
 use Rattle.passes.proofs.Whole.{pass-told}
-use Rattle.solver.specs.Steps.{programIn, Steps, StepsFor}
+use Rattle.solver.specs.Steps.{programIn, StepsFor}
 
 -- the rule of a record is one of the records' rules
 pub record-told : {L : ℕ} {file : List ℕ} {at : ℕ} (p : Program) (t : Table) (r l : ℕ) (w : Walk L file at) (h : at < length file)

@@ -1,6 +1,6 @@
 -- Each change of a state leaves it well founded. Assumes nothing.
 use mathlib.Core.Path.{_≡_, refl, sym, subst}
-use mathlib.Core.Logic.{_⊎_, inl, inr}
+use mathlib.Core.Logic.{inl, inr}
 use mathlib.Core.List.{List, [], _∷_, _++_, List·Memᴰ, List·Memᴰ·append-cases, List·Memᴰ·eq-of-singleton, List·Memᴰ·head, List·Memᴰ·tail}
 use mathlib.Core.Bool.{Bool, true, false, cond, _&&_}
 use mathlib.Core.Option.{Option, some}
@@ -60,11 +60,11 @@ element-below (x ∷ xs) h (suc i) = element-below xs (λ y m. h y (List·Memᴰ
 
 members-below : {n : ℕ} (xs : List Value) (x : Value) → ((y : Value) → List·Memᴰ y xs → ObjectBelow n y) → ObjectBelow n x
     → (y : Value) → List·Memᴰ y (xs ++ (x ∷ [])) → ObjectBelow n y
-members-below {n} xs x h hx y m = go (List·Memᴰ·append-cases xs m)
-  where
-    go : List·Memᴰ y xs ⊎ List·Memᴰ y (x ∷ []) → ObjectBelow n y
-    go (inl q) = h y q
-    go (inr q) = subst (ObjectBelow n) (sym (List·Memᴰ·eq-of-singleton q)) hx
+members-below {n} xs x h hx y m =
+    elim (List·Memᴰ·append-cases xs m) [
+      | inl q ↦ h y q
+      | inr q ↦ subst (ObjectBelow n) (sym (List·Memᴰ·eq-of-singleton q)) hx
+    ]
 
 -- ---- objects and frames as their number grows
 

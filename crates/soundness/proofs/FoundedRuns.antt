@@ -17,7 +17,6 @@ use Rattle.machine.specs.Variable.{read, readAll, write}
 use Rattle.machine.specs.Property.{loadFrom, storeTo}
 use Rattle.machine.specs.Call.{primOf, handTo}
 use Rattle.machine.specs.Step.{Choice, Move, act, hand, member, primNames, thrownIn, isThrown, perform, statementAt, makesSense, step, run}
-use Rattle.machine.specs.Start.{property, held}
 use Rattle.soundness.specs.Founded.{ObjectBelow, Founded}
 use Rattle.soundness.proofs.Founded.{founded-thrown, founded-cond}
 use Rattle.soundness.proofs.FoundedSteps.{read-founded, read-all-founded, write-founded, make-founded, make-function-founded, load-founded, store-founded, call-founded, new-founded, prim-founded, return-founded, thrown-founded, grant-founded}

@@ -22,7 +22,6 @@ use Rattle.format.proofs.Readable.{readable-ready}
 use Rattle.program.specs.Statement as say
 use Rattle.program.specs.Program.{Program, Guest, statements, programOf}
 use Rattle.analysis.specs.Rules.{ruleOf, guestChains, rules}
-use Rattle.machine.specs.Variable.{named}
 use Rattle.machine.specs.Property.{isGuest}
 use Rattle.machine.specs.Step.{member}
 use Rattle.machine.specs.Start.{Filling, property, held, nothing, fillingOf, fillings, withLabel, labelsWith, labelsFrom, firstLabels, startLabels}
@@ -78,21 +77,17 @@ AllBelow n (x ∷ xs) = (x < n) × AllBelow n xs
 
 below : (n : ℕ) (xs : List ℕ) → AllBelow n xs → (x : ℕ) → List·Memᴰ x xs → x < n
 below n [] h x m = absurd (List·Memᴰ·not-nil m)
-below n (y ∷ ys) h x m = go (List·Memᴰ·cases-cons m) (below n ys (h .1) x)
-  where
-    go : (x ≡ y) ⊎ List·Memᴰ x ys → (List·Memᴰ x ys → x < n) → x < n
-    go (inl e) rest = omega (arith, h .0)
-    go (inr q) rest = rest q
+below n (y ∷ ys) h x m = elim (List·Memᴰ·cases-cons m) [ inl e ↦ omega (arith, h .0) | inr q ↦ below n ys (h .1) x q ]
 
 -- ---- the guests' chains
 
 guest-closed : (L : ℕ) (t : Table) (gs : List Guest) → Closed L t (guestChains gs) → (l : ℕ) → isGuest gs l ≡ true → Closed L t (guestChain l)
 guest-closed L t [] c l e = absurd (true≢false (sym e))
-guest-closed L t (g ∷ gs) c l e = go (or-true (eqb (g .label) l) (isGuest gs l) e) (guest-closed L t gs (c .1) l)
-  where
-    go : (eqb (g .label) l ≡ true) ⊎ (isGuest gs l ≡ true) → (isGuest gs l ≡ true → Closed L t (guestChain l)) → Closed L t (guestChain l)
-    go (inl q) rest = subst (λ (z : ℕ). Closed L t (guestChain z)) (eqb-true (g .label) l q) (c .0)
-    go (inr q) rest = rest q
+guest-closed L t (g ∷ gs) c l e =
+    elim (or-true (eqb (g .label) l) (isGuest gs l) e) [
+      | inl q ↦ subst (λ (z : ℕ). Closed L t (guestChain z)) (eqb-true (g .label) l q) (c .0)
+      | inr q ↦ guest-closed L t gs (c .1) l q
+    ]
 
 -- ---- the setting
 

@@ -1,7 +1,7 @@
 -- Demand 3's claim about runs: a table that the rules leave as it is, and whose row of the bag has nothing forbidden, confines the guest. One
 -- statement over every finite list of moves. Assumes nothing.
-use mathlib.Core.Path.{_≡_, refl}
-use mathlib.Core.Logic.{_⊎_, inl, inr}
+use mathlib.Core.Path.{refl}
+use mathlib.Core.Logic.{inl, inr}
 use mathlib.Core.List.{List, [], _∷_, List·Memᴰ, List·Memᴰ·head, List·Memᴰ·tail, List·Memᴰ·cases-cons, List·Memᴰ·not-nil}
 use Prim.Native.Nat.{ℕ, _≤_}
 use Rattle.rules.specs.Table.{Table, Has}
@@ -9,7 +9,7 @@ use Rattle.rules.specs.Told.{Closed}
 use Rattle.format.specs.Reading.{readFile, Readable}
 use Rattle.program.specs.Program.{Program, programOf}
 use Rattle.analysis.specs.Rules.{rules}
-use Rattle.machine.specs.State.{Value, primitive, object, Object, objectIn, labelsAmong, labelsHeld}
+use Rattle.machine.specs.State.{Value, primitive, object, Object, labelsAmong, labelsHeld}
 use Rattle.machine.specs.Step.{Move, run}
 use Rattle.machine.specs.Start.{start}
 use Rattle.soundness.specs.Confined.{Confined, NoneForbidden}
@@ -25,11 +25,11 @@ labels-within : {t : Table} {r : ℕ} (os : List Object) (xs : List Value) → (
     → List·Memᴰ l (labelsAmong os xs) → Has t r l
 labels-within os [] h l m = absurd (List·Memᴰ·not-nil m)
 labels-within os (primitive ∷ xs) h l m = labels-within os xs (λ x q. h x (List·Memᴰ·tail q)) l m
-labels-within {t} {r} os (object i ∷ xs) h l m = go (List·Memᴰ·cases-cons m) (labels-within os xs (λ x q. h x (List·Memᴰ·tail q)) l)
-  where
-    go : (l ≡ objectIn os i .label) ⊎ List·Memᴰ l (labelsAmong os xs) → (List·Memᴰ l (labelsAmong os xs) → Has t r l) → Has t r l
-    go (inl e) rest = rw e (holds-label (h (object i) (List·Memᴰ·head refl)))
-    go (inr q) rest = rest q
+labels-within {t} {r} os (object i ∷ xs) h l m =
+    elim (List·Memᴰ·cases-cons m) [
+      | inl e ↦ rw e (holds-label (h (object i) (List·Memᴰ·head refl)))
+      | inr q ↦ labels-within os xs (λ x q. h x (List·Memᴰ·tail q)) l q
+    ]
 
 -- whatever is ever put in a bag has its label in the bag's row
 pub held-in-row : {L : ℕ} {t : Table} {p : Program} → Setting L t p → (moves : List Move) (b l : ℕ)

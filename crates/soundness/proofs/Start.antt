@@ -1,6 +1,6 @@
 -- The start is described. Assumes nothing.
 use mathlib.Core.Path.{_≡_, refl, sym, _∙_, subst}
-use mathlib.Core.Logic.{_⊎_, inl, inr}
+use mathlib.Core.Logic.{inl, inr}
 use mathlib.Core.List.{List, [], _∷_, map, List·Memᴰ, List·Memᴰ·head, List·Memᴰ·tail, List·Memᴰ·cases-cons, List·Memᴰ·not-nil, Memᴰ·append-right}
 use mathlib.Core.Bool.{Bool, true, false, cond}
 use mathlib.Core.Option.{none, some}
@@ -137,11 +137,11 @@ module _ {L : ℕ} {t : Table} {p : Program} (w : Setting L t p) where
   host-filled : (ss : List (ℕ × say.Statement)) → ((at : ℕ) (a : say.Statement) → List·Memᴰ (at, a) ss → Closed L t (ruleOf p a))
       → (x : Filling) → List·Memᴰ x (map (λ s. fillingOf (s .1)) ss) → Filled x
   host-filled [] h x m = absurd (List·Memᴰ·not-nil m)
-  host-filled (s ∷ ss) h x m = go (List·Memᴰ·cases-cons m) (host-filled ss (λ at a q. h at a (List·Memᴰ·tail q)) x)
-    where
-      go : (x ≡ fillingOf (s .1)) ⊎ List·Memᴰ x (map (λ s. fillingOf (s .1)) ss) → (List·Memᴰ x (map (λ s. fillingOf (s .1)) ss) → Filled x) → Filled x
-      go (inl e) rest = subst Filled (sym e) (filled (s .1) (fills (s .1)) (h (s .0) (s .1) (List·Memᴰ·head refl)))
-      go (inr q) rest = rest q
+  host-filled (s ∷ ss) h x m =
+      elim (List·Memᴰ·cases-cons m) [
+        | inl e ↦ subst Filled (sym e) (filled (s .1) (fills (s .1)) (h (s .0) (s .1) (List·Memᴰ·head refl)))
+        | inr q ↦ host-filled ss (λ at a q. h at a (List·Memᴰ·tail q)) x q
+      ]
 
   pub start-described : Described L t p (start p)
   start-described =

@@ -102,11 +102,11 @@ with-cases k l ls = go (member k ls)
 
 filling-cases : (l : ℕ) (ls : List ℕ) (x : Filling) → List·Memᴰ l (labelsWith ls x) → List·Memᴰ l ls ⊎ Names l x
 filling-cases l ls nothing m = inl m
-filling-cases l ls (held v k) m = go (with-cases k l ls m)
-  where
-    go : List·Memᴰ l ls ⊎ (l ≡ k) → List·Memᴰ l ls ⊎ Names l (held v k)
-    go (inl q) = inl q
-    go (inr e) = inr (subst (λ (z : ℕ). Names l (held v z)) e (names-held v))
+filling-cases l ls (held v k) m =
+    elim (with-cases k l ls m) [
+      | inl q ↦ inl q
+      | inr e ↦ inr (subst (λ (z : ℕ). Names l (held v z)) e (names-held v))
+    ]
 filling-cases l ls (property k n j) m = go (with-cases j l (withLabel k ls) m)
   where
     holder : List·Memᴰ l ls ⊎ (l ≡ k) → List·Memᴰ l ls ⊎ Names l (property k n j)

@@ -102,11 +102,11 @@ module _ (L : ℕ) (s : Sheet) (ps : List (ℕ × Record)) (ready : Ready L s ps
 
   data-declared : (l : ℕ) → good L s dataLabel l ≡ true → declared s l ≡ true
   unfolding good
-  data-declared l e = go (or-true (eqb (typeOf s l) 1) _ (and-second (leb 5 l) _ e))
-    where
-      go : (eqb (typeOf s l) 1 ≡ true) ⊎ (eqb (typeOf s l) 3 ≡ true) → declared s l ≡ true
-      go (inl q) = of-type l 0 (eqb-true _ _ q)
-      go (inr q) = of-type l 2 (eqb-true _ _ q)
+  data-declared l e =
+      elim (or-true (eqb (typeOf s l) 1) _ (and-second (leb 5 l) _ e)) [
+        | inl q ↦ of-type l 0 (eqb-true _ _ q)
+        | inr q ↦ of-type l 2 (eqb-true _ _ q)
+      ]
 
   variable-positive : (v : ℕ) → good L s declaredVariable v ≡ true → 0 < v
   unfolding good
@@ -165,11 +165,7 @@ module _ (L : ℕ) (s : Sheet) (ps : List (ℕ × Record)) (ready : Ready L s ps
 
   -- the first of a list, and the others
   either : (a b : say.Statement) (xs : List say.Statement) → Sensible p b → (List·Memᴰ a xs → Sensible p a) → List·Memᴰ a (b ∷ xs) → Sensible p a
-  either a b xs h rest m = go (List·Memᴰ·cases-cons m)
-    where
-      go : (a ≡ b) ⊎ List·Memᴰ a xs → Sensible p a
-      go (inl e) = subst (Sensible p) (sym e) h
-      go (inr q) = rest q
+  either a b xs h rest m = elim (List·Memᴰ·cases-cons m) [ inl e ↦ subst (Sensible p) (sym e) h | inr q ↦ rest q ]
 
   guest-sensible : (g : Guest) → List·Memᴰ g (guestsOf s) → (a : say.Statement) → List·Memᴰ a (guestStatements g) → Sensible p a
   unfolding guestStatements
@@ -187,11 +183,11 @@ module _ (L : ℕ) (s : Sheet) (ps : List (ℕ × Record)) (ready : Ready L s ps
 
   pub all-sensible : (at : ℕ) (a : say.Statement) → List·Memᴰ (at, a) (statements p) → Sensible p a
   unfolding statements
-  all-sensible at a m = go (List·Memᴰ·append-cases (guestsStatements (p .guests)) m)
-    where
-      go : List·Memᴰ {A = ℕ × say.Statement} (at, a) (guestsStatements (p .guests)) ⊎ List·Memᴰ {A = ℕ × say.Statement} (at, a) (p .host) → Sensible p a
-      go (inl i) = guests-all (Sensible p) (p .guests) guest-sensible at a i
-      go (inr i) = host-all (Sensible p) ps record-sensible at a i
+  all-sensible at a m =
+      elim (List·Memᴰ·append-cases (guestsStatements (p .guests)) m) [
+        | inl i ↦ guests-all (Sensible p) (p .guests) guest-sensible at a i
+        | inr i ↦ host-all (Sensible p) ps record-sensible at a i
+      ]
 
   -- ---- names
 

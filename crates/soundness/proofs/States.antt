@@ -1,7 +1,7 @@
 -- Each change of a state leaves it described: an object more, another value in an object, a frame more, another value in a frame, a value more in a
 -- bag. Assumes nothing.
 use mathlib.Core.Path.{_≡_, refl, ap, sym, subst}
-use mathlib.Core.Logic.{_⊎_, inl, inr}
+use mathlib.Core.Logic.{inl, inr}
 use mathlib.Core.List.{List, [], _∷_, _++_, List·Memᴰ, List·Memᴰ·not-nil, List·Memᴰ·append-cases, List·Memᴰ·eq-of-singleton}
 use mathlib.Core.Bool.{Bool, true, false, cond, _&&_}
 use mathlib.Core.Option.{Option, none, some}
@@ -15,16 +15,17 @@ use Rattle.format.specs.Sheet.{declared}
 use Rattle.program.specs.Program.{Program}
 use Rattle.machine.specs.State.{Value, primitive, Object, Caller, Frame, State, noObject, noFrame, frameIn, objectAt, frameAt, withObject, withFrame, setObject, setFrame, withBagged, withValue, withVariable, withThrown}
 use Rattle.soundness.specs.Described.{P, H, T, labelIn, Allowed, primitive-allowed, AllowedIfAny, nothing-there, value-there, ObjectDescribed, LinkedIfCalled, no-caller, called, FrameDescribed, Described}
-use Rattle.soundness.proofs.Values.{at-append, at-set, field-set, Keeps, keeps-refl, keeps-append, keeps-set, first-kept, allowed-kept, any-kept}
+use Rattle.machine.proofs.laws.Writing.{field-set}
+use Rattle.soundness.proofs.Values.{at-append, at-set, Keeps, keeps-refl, keeps-append, keeps-set, first-kept, allowed-kept, any-kept}
 
 -- one more in a list of allowed values
 pub members-more : {t : Table} {os : List Object} {r : ℕ} (xs : List Value) (x : Value) → ((y : Value) → List·Memᴰ y xs → Allowed t os r y) → Allowed t os r x
     → (y : Value) → List·Memᴰ y (xs ++ (x ∷ [])) → Allowed t os r y
-members-more {t} {os} {r} xs x h hx y m = go (List·Memᴰ·append-cases xs m)
-  where
-    go : List·Memᴰ y xs ⊎ List·Memᴰ y (x ∷ []) → Allowed t os r y
-    go (inl q) = h y q
-    go (inr q) = subst (λ (z : Value). Allowed t os r z) (sym (List·Memᴰ·eq-of-singleton q)) hx
+members-more {t} {os} {r} xs x h hx y m =
+    elim (List·Memᴰ·append-cases xs m) [
+      | inl q ↦ h y q
+      | inr q ↦ subst (λ (z : Value). Allowed t os r z) (sym (List·Memᴰ·eq-of-singleton q)) hx
+    ]
 
 -- the label is declared
 abbrev pub Declared : Program → ℕ → Type 0

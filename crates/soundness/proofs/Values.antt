@@ -8,6 +8,7 @@ use native.Mathlib.Decide.{ℕ-discrete, decLt}
 use lib.ListN.{length, getD, set, length-set, length-append, List·getD-append, List·getD-eq-default}
 use lib.Seq.{getD-set-same, getD-set-other, set-out, getD-append-seam}
 use Rattle.rules.specs.Table.{Table, Has}
+use Rattle.machine.proofs.laws.Writing.{field-set}
 use Rattle.machine.specs.State.{Value, primitive, object, Object, noObject, orPrimitive}
 use Rattle.soundness.specs.Described.{labelIn, Allowed, primitive-allowed, object-allowed, AllowedIfAny, nothing-there, value-there, FirstObjects}
 
@@ -30,15 +31,6 @@ at-set C xs k x d h hx i = go (ℕ-discrete i k) (decLt k (length xs))
     go (no e) l = subst C (sym (getD-set-other xs k i x d e)) (h i)
     go (yes e) (yes l) = rw (e, getD-set-same xs k x d l) hx
     go (yes e) (no l) = rw (set-out xs k x (omega arith)) (h i)
-
--- a field that the new element shares with the old one is the same at each place
-pub field-set : {A B : Type 0} (f : A → B) (xs : List A) (k : ℕ) (x d : A) → f x ≡ f (getD xs k d) → (i : ℕ) → f (getD (set xs k x) i d) ≡ f (getD xs i d)
-field-set f xs k x d e i = go (ℕ-discrete i k) (decLt k (length xs))
-  where
-    go : Dec (i ≡ k) → Dec (k < length xs) → f (getD (set xs k x) i d) ≡ f (getD xs i d)
-    go (no n) l = ap f (getD-set-other xs k i x d n)
-    go (yes q) (yes l) = rw q (ap f (getD-set-same xs k x d l) ∙ e)
-    go (yes q) (no l) = rw (set-out xs k x (omega arith))
 
 -- ---- lists that keep the labels of what they hold
 

@@ -13,7 +13,8 @@ use Rattle.machine.specs.State.{Value, primitive, Object, Frame, State, noFrame
 use Rattle.machine.specs.Lookup.{nearestOf}
 use Rattle.machine.specs.Variable.{Place, nowhere, bag, named, local, placeOf, readIn, readPlace, read, readAll, writeIn, writePlace, write, writeAll}
 use Rattle.soundness.specs.Described.{H, labelIn, Allowed, primitive-allowed, Described}
-use Rattle.soundness.proofs.Values.{field-set, Keeps, keeps-refl, keeps-set, allowed-kept, allowed-more, any-allowed, element-allowed}
+use Rattle.machine.proofs.laws.Writing.{field-set}
+use Rattle.soundness.proofs.Values.{Keeps, keeps-refl, keeps-set, allowed-kept, allowed-more, any-allowed, element-allowed}
 use Rattle.soundness.proofs.States.{described-value, described-variable, described-bagged}
 use Rattle.soundness.proofs.Setting.{Setting}
 

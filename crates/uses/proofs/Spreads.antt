@@ -1,9 +1,9 @@
 -- A set joined to many rows: one row, and a loop over the labels that take rows. Assumes nothing.
-use mathlib.Core.Path.{_≡_, refl, sym, _∙_, subst}
+use mathlib.Core.Path.{_≡_, refl, _∙_, subst}
 use mathlib.Core.Logic.{_⊎_, inl, inr}
 use mathlib.Core.Bool.{Bool, false, _||_}
 use mathlib.Core.List.{List}
-use Prim.Native.Nat.{ℕ, _+_, _<_}
+use Prim.Native.Nat.{ℕ, _<_}
 use native.Mathlib.Decide.{ℕ-discrete}
 use native.Mathlib.Omega.{arith}
 use lib.Bits.{bitAnd}
@@ -12,12 +12,12 @@ use Rattle.words.specs.Words.{Taken}
 use Rattle.words.proofs.Bits.{On, empty-off, on-meet}
 use Rattle.rows.specs.Edition.{labels, words}
 use Rattle.rows.specs.Row.{number, property, rowCount}
-use Rattle.rules.specs.Table.{Table, Has}
+use Rattle.rules.specs.Table.{Has}
 use Rattle.lent.specs.Table.{tableAt}
 use Rattle.lent.specs.Stored.{Joined}
-use Rattle.uses.specs.Use.{Apart, tableOf, Used}
-use Rattle.uses.specs.Spread.{rowAfter, namedRows, givenTo, given, takenBy, SpreadTo}
-use Rattle.uses.proofs.Use.{reached-keeps, used-nothing, used-for, used-join, used-since, was-left, Looped, looped-start, looped-next, looped-end, EachOf}
+use Rattle.uses.specs.Use.{Apart}
+use Rattle.uses.specs.Spread.{rowAfter, namedRows, givenTo, takenBy, SpreadTo}
+use Rattle.uses.proofs.Use.{reached-keeps, used-nothing, used-for, used-join, used-since, Looped, looped-start, looped-next, looped-end}
 
 -- for the same rows
 pub spread-for : {wide : Bool} {o x least : ℕ} {H K : ℕ → Type 0} {t u : List ℕ} {grew : Bool} → Apart wide o → ((r : ℕ) → H r → K r) → ((r : ℕ) → K r → H r)

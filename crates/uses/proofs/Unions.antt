@@ -10,7 +10,7 @@ use Rattle.words.specs.Words.{union, Taken}
 use Rattle.words.proofs.Bits.{On, empty-off, on-below, on-union, on-left, on-right}
 use Rattle.rows.specs.Edition.{labels}
 use Rattle.rows.specs.Row.{number, property, rowCount}
-use Rattle.rules.specs.Table.{Table, Has, Within}
+use Rattle.rules.specs.Table.{Table, Has}
 use Rattle.rows.specs.Run as run
 use Rattle.sets.specs.Value.{wordsOf, value}
 use Rattle.sets.specs.declared.Set.{Set}

@@ -16,7 +16,7 @@ use Rattle.rules.specs.Table.{Table, Has, Within}
 use Rattle.rules.specs.Rule.{Rule}
 use Rattle.rules.specs.Told.{Told, Closed}
 use Rattle.rules.proofs.Join.{join-keeps, join-tells, has-join}
-use Rattle.rules.proofs.Told.{told-monotone, told-within, told-closed}
+use Rattle.rules.proofs.Told.{told-within, told-closed}
 use Rattle.lent.specs.Table.{wordCount, tableAt}
 use Rattle.lent.specs.Stored.{Joined}
 use Rattle.rows.proofs.Run.{view-length, view-same}

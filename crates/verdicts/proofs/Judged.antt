@@ -31,21 +31,21 @@ module _ (L : ℕ) (p : Program) where
   held-leaks d = rw (ne-eqb (forbiddenHeld (leastTable L p) (p .guests)) 0 d)
 
   pub confined-clear : Confined (judged L p) → forbiddenHeld (leastTable L p) (p .guests) ≡ 0
-  confined-clear c = go (ℕ-discrete (forbiddenHeld (leastTable L p) (p .guests)) 0)
-    where
-      go : Dec (forbiddenHeld (leastTable L p) (p .guests) ≡ 0) → forbiddenHeld (leastTable L p) (p .guests) ≡ 0
-      go (yes e) = e
-      go (no d) = let a = held-leaks d in let b = c .1 in let z : _≡_ {A = ℕ} 0 1 = cc in absurd (omega arith)
+  confined-clear c =
+      elim (ℕ-discrete (forbiddenHeld (leastTable L p) (p .guests)) 0) [
+        | yes e ↦ e
+        | no d ↦ (let a = held-leaks d in let b = c .1 in let z : _≡_ {A = ℕ} 0 1 = cc in absurd (omega arith))
+      ]
 
   pub leaks-held : Leaks (judged L p) → forbiddenHeld (leastTable L p) (p .guests) ≡ 0 → ⊥
   leaks-held k e = let a = clear-confined e in let b = k .3 in let z : _≡_ {A = ℕ} 0 1 = cc in omega arith
 
   pub judged-cases : Confined (judged L p) ⊎ Leaks (judged L p)
-  judged-cases = go (ℕ-discrete (forbiddenHeld (leastTable L p) (p .guests)) 0)
-    where
-      go : Dec (forbiddenHeld (leastTable L p) (p .guests) ≡ 0) → Confined (judged L p) ⊎ Leaks (judged L p)
-      go (yes e) = inl (_, clear-confined e)
-      go (no d) = inr (_, _, _, held-leaks d)
+  judged-cases =
+      elim (ℕ-discrete (forbiddenHeld (leastTable L p) (p .guests)) 0) [
+        | yes e ↦ inl (_, clear-confined e)
+        | no d ↦ inr (_, _, _, held-leaks d)
+      ]
 
 -- the one guest that there is
 pub guest-three : (L : ℕ) (xs : List ℕ) → holder (programIn L xs .guests) ≡ 3
@@ -70,18 +70,18 @@ lowest-forbidden L s t below d =
   where
     first : (g : Guest) → Lowest (heldForbidden t g) L (trailingZeros L (heldForbidden t g)) → (m : ℕ) → On (heldForbidden t g) m
         → trailingZeros L (heldForbidden t g) ≤ m
-    first g low m o = go (decLt m (trailingZeros L (heldForbidden t g)))
-      where
-        go : Dec (m < trailingZeros L (heldForbidden t g)) → trailingZeros L (heldForbidden t g) ≤ m
-        go (yes h) = absurd (omega (arith, low .least m h))
-        go (no h) = omega arith
+    first g low m o =
+        elim (decLt m (trailingZeros L (heldForbidden t g))) [
+          | yes h ↦ absurd (omega (arith, low .least m h))
+          | no h ↦ omega arith
+        ]
 
 pub forbidden-none : (L : ℕ) (s : Sheet) (t : Table) → s .forbidden < 2 ^ L → ((l : ℕ) → ForbiddenHeld s t l → ⊥) → forbiddenHeld t (guestsOf s) ≡ 0
-forbidden-none L s t below none = go (ℕ-discrete (forbiddenHeld t (guestsOf s)) 0)
-  where
-    go : Dec (forbiddenHeld t (guestsOf s) ≡ 0) → forbiddenHeld t (guestsOf s) ≡ 0
-    go (yes e) = e
-    go (no d) = absurd (none _ (lowest-forbidden L s t below d .held))
+forbidden-none L s t below none =
+    elim (ℕ-discrete (forbiddenHeld t (guestsOf s)) 0) [
+      | yes e ↦ e
+      | no d ↦ absurd (none _ (lowest-forbidden L s t below d .held))
+    ]
 
 -- there is one lowest label at most
 pub lowest-only : (s : Sheet) (t : Table) (l m : ℕ) → LowestForbidden s t l → LowestForbidden s t m → l ≡ m

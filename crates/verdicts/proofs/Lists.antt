@@ -179,11 +179,7 @@ module _ (L : ℕ) (five : 5 ≤ L) (xs : List ℕ) (t : Table) where
     none-lacks h r e = omega (arith, row-first r e, lacking-below r e)
 
     no-row : NoneLacks L xs t → rowCount L ≤ row
-    no-row none = go (decLt row (rowCount L))
-      where
-        go : Dec (row < rowCount L) → rowCount L ≤ row
-        go (yes h) = absurd (none row (row-lacking h))
-        go (no h) = omega arith
+    no-row none = elim (decLt row (rowCount L)) [ yes h ↦ absurd (none row (row-lacking h)) | no h ↦ omega arith ]
 
     -- the label of 11 is the lowest forbidden one in row 1, and there is none exactly where the word of such labels is empty
     label-lowest : (held ≡ 0 → ⊥) → LowestForbidden (programIn L xs .sheet) t (trailingZeros L held)

@@ -30,11 +30,11 @@ use Rattle.verdicts.proofs.Judged.{guest-three}
 
 position-small : (L : ℕ) (xs : List ℕ) → readFile L xs .position < 2 ^ 60
 unfolding readFile
-position-small L xs = go (decLt longest (length xs))
-  where
-    go : Dec (longest < length xs) → readFile L xs .position < 2 ^ 60
-    go (yes h) = rw (lt-ltb longest (length xs) h) (omega arith)
-    go (no h) = omega (arith, file-position-within L xs)
+position-small L xs =
+    elim (decLt longest (length xs)) [
+      | yes h ↦ rw (lt-ltb longest (length xs) h) (omega arith)
+      | no h ↦ omega (arith, file-position-within L xs)
+    ]
 
 count-small : (L : ℕ) (t : Table) → L ≤ 256 → facts L t < 2 ^ 22
 count-small L t h =

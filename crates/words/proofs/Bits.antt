@@ -46,11 +46,7 @@ pub on-right : (a b l : ℕ) → On b l → On (union a b) l
 on-right a b l h = omega (arith, bit-union a b l, bit-small a l)
 
 pub on-union : (a b l : ℕ) → On (union a b) l → On a l ⊎ On b l
-on-union a b l h = go (on? a l)
-  where
-    go : Dec (On a l) → On a l ⊎ On b l
-    go (yes o) = inl o
-    go (no d) = inr (omega (arith, bit-union a b l, bit-small b l, off a l d))
+on-union a b l h = elim (on? a l) [ yes o ↦ inl o | no d ↦ inr (omega (arith, bit-union a b l, bit-small b l, off a l d)) ]
 
 -- ---- both, and one without the other
 
@@ -65,11 +61,7 @@ on-difference a b l h = omega (arith, bit-difference a b l, bit-small a l)
 
 -- a label of the first is in the second or in the difference
 pub difference-on : (a b l : ℕ) → On a l → On (difference a b) l ⊎ On b l
-difference-on a b l h = go (on? b l)
-  where
-    go : Dec (On b l) → On (difference a b) l ⊎ On b l
-    go (yes o) = inr o
-    go (no d) = inl (omega (arith, bit-difference a b l, off b l d))
+difference-on a b l h = elim (on? b l) [ yes o ↦ inr o | no d ↦ inl (omega (arith, bit-difference a b l, off b l d)) ]
 
 -- ---- a single label
 
@@ -86,11 +78,7 @@ abbrev pub Subset : ℕ → ℕ → Type 0
 Subset x y = (l : ℕ) → On x l → On y l
 
 pub subset-bits : (x y : ℕ) → Subset x y → (l : ℕ) → bit x l ≤ bit y l
-subset-bits x y h l = go (on? x l)
-  where
-    go : Dec (On x l) → bit x l ≤ bit y l
-    go (yes o) = omega (arith, h l o)
-    go (no d) = omega (arith, off x l d)
+subset-bits x y h l = elim (on? x l) [ yes o ↦ omega (arith, h l o) | no d ↦ omega (arith, off x l d) ]
 
 pub same-labels : (k x y : ℕ) → x < 2 ^ k → y < 2 ^ k → Subset x y → Subset y x → x ≡ y
 same-labels k x y hx hy a b = ext k x y hx hy (λ l i. omega (arith, subset-bits x y a l, subset-bits y x b l))

@@ -24,17 +24,13 @@ mul-result c = let h = sixteen _ _ (c .before .pre) (c .if1 .taken) in search ne
 add-result : tie.Need-add-result
 add-result c = let h = sixteen _ _ (c .before .pre) (c .if1 .taken) in search needs
 
-returns : tie.Need-returns
-returns c = rw (eq-eqb _ _ (c .if1 .taken)) (omega arith)
-
 mul-result-2 : tie.Need-mul-result-2
 mul-result-2 c = let h = other _ _ (c .before .pre) (c .if1 .left) in search needs
 
 add-result-2 : tie.Need-add-result-2
 add-result-2 c = let h = other _ _ (c .before .pre) (c .if1 .left) in search needs
 
-returns-2 : tie.Need-returns-2
-returns-2 c = rw (ne-eqb _ _ (c .if1 .left)) (omega arith)
-
 pub refusal-spec : {M : Type 1} → statement M
-refusal-spec = tie.close (tie.spec mul-result add-result returns mul-result-2 add-result-2 returns-2)
+refusal-spec =
+    tie.close (tie.spec mul-result add-result (λ c. rw (eq-eqb _ _ (c .if1 .taken)) (omega arith)) mul-result-2 add-result-2
+    (λ c. rw (ne-eqb _ _ (c .if1 .left)) (omega arith)))

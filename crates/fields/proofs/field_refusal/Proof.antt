@@ -25,4 +25,5 @@ returns-2 c =
 
 pub field-refusal-spec : {M : Type 1} → statement M
 field-refusal-spec =
-    tie.close (tie.spec (λ c κs. search needs) slice-aggregate-counted (λ c κs. search needs) returns (λ c κs. search needs) returns-2)
+    tie.close (tie.spec (λ c κs. search needs) slice-aggregate-counted (λ c κs. search needs) returns (λ c κs. search needs)
+    returns-2)

@@ -6,16 +6,10 @@ use borrow.Author.Tests.{lt-ltb, le-ltb}
 use Rattle.host.proofs.names.Statement.{statement}
 use Rattle.host.proofs.names.Tie as tie
 
-single-requires : tie.Need-single-requires
-single-requires c κs = omega (arith, c .before .pre .1 (search needs))
-
 returns : tie.Need-returns
 returns c = rw (lt-ltb (c .before .before .args .key) 128 (search needs)) (c .single .ensures)
 
-returns-2 : tie.Need-returns-2
-returns-2 c = rw (le-ltb (c .before .before .args .key) 128 (search needs)) refl
-
 pub names-spec : {M : Type 1} → statement M
 names-spec =
-    tie.close
-    (tie.spec single-requires returns (λ c. search needs) (λ c. search needs) (λ c. search needs) returns-2)
+    tie.close (tie.spec (λ c κs. omega (arith, c .before .pre .1 (search needs))) returns (λ c. search needs) (λ c. search needs)
+    (λ c. search needs) (λ c. rw (le-ltb (c .before .before .args .key) 128 (search needs)) refl))

@@ -19,9 +19,7 @@ returns c =
 returns-2 : tie.Need-returns-2
 returns-2 c = record { joined = c .before .before .before .union .ensures; left = inl refl }
 
-returns-3 : tie.Need-returns-3
-returns-3 c = record { joined = c .before .union .ensures; left = inl refl }
-
 pub answer-spec : {M : Type 1} → statement M
 answer-spec =
-    tie.close (tie.spec (λ c κs. search needs) (λ c κs. search needs) keep-requires returns returns-2 returns-3)
+    tie.close (tie.spec (λ c κs. search needs) (λ c κs. search needs) keep-requires returns returns-2
+    (λ c. record { joined = c .before .union .ensures; left = inl refl }))

@@ -7,12 +7,6 @@ use Rattle.kept.proofs.Pairs.{never, asks-part, asks-held}
 use Rattle.kept.proofs.ask.Statement.{statement}
 use Rattle.kept.proofs.ask.Tie as tie
 
-returns : tie.Need-returns
-returns c = all never (c .before .before .none .ensures) refl
-
-set-of-requires : tie.Need-set-of-requires
-set-of-requires c κs = c .before .is-kept .ensures (not-false _ (c .if1 .left))
-
 with-of-requires : tie.Need-with-of-requires
 with-of-requires c κs = let else1 = c .before in else1 .before .is-kept .ensures (not-false _ (else1 .if1 .left))
 
@@ -43,18 +37,6 @@ returns-4 c =
 
 pub ask-spec : {M : Type 1} → statement M
 ask-spec =
-    tie.close
-    (tie.spec
-    (λ c κs. search needs)
-    (λ c κs. search needs)
-    returns
-    set-of-requires
-    with-of-requires
-    (λ c κs. search needs)
-    (λ c κs. search needs)
-    returns-2
-    (λ c κs. search needs)
-    returns-3
-    (λ c κs. search needs)
-    (λ c κs. search needs)
-    returns-4)
+    tie.close (tie.spec (λ c κs. search needs) (λ c κs. search needs) (λ c. all never (c .before .before .none .ensures) refl)
+    (λ c κs. c .before .is-kept .ensures (not-false _ (c .if1 .left))) with-of-requires (λ c κs. search needs)
+    (λ c κs. search needs) returns-2 (λ c κs. search needs) returns-3 (λ c κs. search needs) (λ c κs. search needs) returns-4)

@@ -14,27 +14,6 @@ Inv-loop keeps₀ wide from to none pair₀ keeps pair = (from ≤ pair) × (pai
 abbrev μ-loop : tie.MeasureT-loop
 μ-loop keeps₀ wide from to none pair₀ keeps pair = to - pair
 
-none-requires : tie.Need-none-requires Inv-loop μ-loop
-none-requires c κs = search needs
-
-loop-holds : tie.Need-loop-holds Inv-loop μ-loop
-loop-holds c = (search needs, search needs, cleared-start)
-
-keep-requires : tie.Need-keep-requires Inv-loop μ-loop
-keep-requires c κs = search needs
-
-add-pair : tie.Need-add-pair Inv-loop μ-loop
-add-pair c = search needs
-
-loop-less : tie.Need-loop-less Inv-loop μ-loop
-loop-less c = search needs
-
-loop-again : tie.Need-loop-again Inv-loop μ-loop
-loop-again c =
-    let loop = c .before .before .before in
-    let none = loop .before .none .ensures in
-    (search needs, search needs, cleared-next (loop .loop .inv .0) none none (c .keep .ensures) (loop .loop .inv .2))
-
 returns : tie.Need-returns Inv-loop μ-loop
 returns c =
     let loop = c .before in
@@ -43,14 +22,5 @@ returns c =
 
 pub clear-spec : {M : Type 1} → statement M
 clear-spec =
-    tie.close
-    (tie.spec
-    Inv-loop
-    μ-loop
-    none-requires
-    loop-holds
-    keep-requires
-    add-pair
-    loop-less
-    loop-again
-    returns)
+    tie.close (tie.spec Inv-loop μ-loop (λ c κs. search needs) (λ c. (search needs, search needs, cleared-start))
+    (λ c κs. search needs) (λ c. search needs) (λ c. search needs) (λ c. search (needs, cleared-next)) returns)

@@ -7,12 +7,6 @@ use Rattle.kept.proofs.Pairs.{learns-wider, learns-anew}
 use Rattle.kept.proofs.learn.Statement.{statement}
 use Rattle.kept.proofs.learn.Tie as tie
 
-returns : tie.Need-returns
-returns c = same refl
-
-returns-2 : tie.Need-returns-2
-returns-2 c = same refl
-
 set-of-requires : tie.Need-set-of-requires
 set-of-requires c κs = let else1 = c .before .before in else1 .before .is-kept .ensures (not-false _ (else1 .if1 .left))
 
@@ -46,24 +40,8 @@ returns-4 c =
     let else1 = else3 .before .before .before .before in
     learns-anew (else1 .before .is-kept .ensures (not-false _ (else1 .if1 .left))) (else3 .if3 .left) (c .keep2 .ensures)
 
-returns-5 : tie.Need-returns-5
-returns-5 c = same refl
-
 pub learn-spec : {M : Type 1} → statement M
 learn-spec =
-    tie.close
-    (tie.spec
-    (λ c κs. search needs)
-    (λ c κs. search needs)
-    returns
-    returns-2
-    set-of-requires
-    with-of-requires
-    (λ c κs. search needs)
-    (λ c κs. search needs)
-    keep-requires
-    returns-3
-    (λ c κs. search needs)
-    keep-requires-2
-    returns-4
-    returns-5)
+    tie.close (tie.spec (λ c κs. search needs) (λ c κs. search needs) (λ c. same refl) (λ c. same refl) set-of-requires
+    with-of-requires (λ c κs. search needs) (λ c κs. search needs) keep-requires returns-3 (λ c κs. search needs) keep-requires-2
+    returns-4 (λ c. same refl))

@@ -7,12 +7,6 @@ use Rattle.kept.proofs.Pairs.{leaves-some}
 use Rattle.kept.proofs.leave.Statement.{statement}
 use Rattle.kept.proofs.leave.Tie as tie
 
-returns : tie.Need-returns
-returns c = every refl
-
-with-of-requires : tie.Need-with-of-requires
-with-of-requires c κs = c .before .is-kept .ensures (not-false _ (c .if1 .left))
-
 set-of-requires : tie.Need-set-of-requires
 set-of-requires c κs = let else1 = c .before .before .before in else1 .before .is-kept .ensures (not-false _ (else1 .if1 .left))
 
@@ -26,18 +20,8 @@ returns-2 c =
     leaves-some (else1 .before .is-kept .ensures (not-false _ (else1 .if1 .left))) (set .set-of .ensures) (with .with-of .ensures)
     (within .is-within .ensures .0) (then2 .if2 .taken) (c .without .ensures)
 
-returns-3 : tie.Need-returns-3
-returns-3 c = every refl
-
 pub leave-spec : {M : Type 1} → statement M
 leave-spec =
-    tie.close
-    (tie.spec
-    (λ c κs. search needs)
-    returns
-    with-of-requires
-    (λ c κs. search needs)
-    set-of-requires
-    (λ c κs. search needs)
-    returns-2
-    returns-3)
+    tie.close (tie.spec (λ c κs. search needs) (λ c. every refl)
+    (λ c κs. c .before .is-kept .ensures (not-false _ (c .if1 .left))) (λ c κs. search needs) set-of-requires
+    (λ c κs. search needs) returns-2 (λ c. every refl))

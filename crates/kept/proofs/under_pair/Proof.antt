@@ -8,9 +8,6 @@ use Rattle.kept.proofs.under_pair.Tie as tie
 returns : tie.Need-returns
 returns c = (slot-under-class _ (omega arith) (omega arith) (omega arith), omega arith)
 
-returns-2 : tie.Need-returns-2
-returns-2 c = (slot-under-name 32 (omega arith) (omega arith) (omega arith), omega arith)
-
 returns-3 : tie.Need-returns-3
 returns-3 c = (slot-under-often _ (omega (arith, c .before .if2 .left)) (omega arith) (omega arith), omega arith)
 
@@ -21,4 +18,5 @@ returns-4 c =
 
 pub under-pair-spec : {M : Type 1} → statement M
 under-pair-spec =
-    tie.close (tie.spec (λ c. search needs) returns returns-2 (λ c. search needs) returns-3 (λ c. search needs) returns-4)
+    tie.close (tie.spec (λ c. search needs) returns (λ c. search (needs, slot-under-name)) (λ c. search needs) returns-3
+    (λ c. search needs) returns-4)

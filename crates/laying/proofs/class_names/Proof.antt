@@ -14,24 +14,6 @@ Inv-loop masks class names₀ n₀ names n = (n ≤ 32) × Holds (ofClass masks 
 abbrev μ-loop : tie.MeasureT-loop
 μ-loop masks class names₀ n₀ names n = 32 - n
 
-loop-holds : tie.Need-loop-holds Inv-loop μ-loop
-loop-holds c = (search needs, holds-none _)
-
-element-copy-out-mask-of : tie.Need-element-copy-out-mask-of Inv-loop μ-loop
-element-copy-out-mask-of c = search needs
-
-mask-of-requires : tie.Need-mask-of-requires Inv-loop μ-loop
-mask-of-requires c κs = search needs
-
-with-name-requires : tie.Need-with-name-requires Inv-loop μ-loop
-with-name-requires c κs = search needs
-
-add-n : tie.Need-add-n Inv-loop μ-loop
-add-n c = search needs
-
-loop-less : tie.Need-loop-less Inv-loop μ-loop
-loop-less c = search needs
-
 loop-again : tie.Need-loop-again Inv-loop μ-loop
 loop-again c =
     let a = c .before .before .before .before .before .args in
@@ -45,15 +27,5 @@ returns c = let e : c .before .loop .n ≡ 32 = omega arith in rw e at (c .befor
 
 pub class-names-spec : {M : Type 1} → statement M
 class-names-spec =
-    tie.close
-    (tie.spec
-    Inv-loop
-    μ-loop
-    loop-holds
-    element-copy-out-mask-of
-    mask-of-requires
-    with-name-requires
-    add-n
-    loop-less
-    loop-again
-    returns)
+    tie.close (tie.spec Inv-loop μ-loop (λ c. (search needs, holds-none _)) (λ c. search needs) (λ c κs. search needs)
+    (λ c κs. search needs) (λ c. search needs) (λ c. search needs) loop-again returns)

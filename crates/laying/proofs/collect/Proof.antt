@@ -62,14 +62,4 @@ returns c =
 
 pub collect-spec : {M : Type 1} → statement M
 collect-spec =
-    tie.close
-    (tie.spec
-    Inv-loop
-    μ-loop
-    mark-requires
-    loop-holds
-    collect-at-requires
-    after-requires
-    loop-less
-    loop-again
-    returns)
+    tie.close (tie.spec Inv-loop μ-loop mark-requires loop-holds collect-at-requires after-requires loop-less loop-again returns)

@@ -23,18 +23,7 @@ shared-slice-read-v c =
 returns : tie.Need-returns
 returns c = (λ _. c .mark .ensures, λ d. absurd (d (search needs)))
 
-returns-2 : tie.Need-returns-2
-returns-2 c = (λ e. absurd (c .if1 .left e), λ _. refl)
-
 pub collect-at-spec : {M : Type 1} → statement M
 collect-at-spec =
-    tie.close
-    (tie.spec
-    (λ c. search needs)
-    (λ c. search needs)
-    shared-slice-read-k
-    (λ c. search needs)
-    shared-slice-read-v
-    (λ c κs. search needs)
-    returns
-    returns-2)
+    tie.close (tie.spec (λ c. search needs) (λ c. search needs) shared-slice-read-k (λ c. search needs) shared-slice-read-v
+    (λ c κs. search needs) returns (λ c. (λ e. absurd (c .if1 .left e), λ _. refl)))

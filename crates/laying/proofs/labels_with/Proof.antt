@@ -18,33 +18,6 @@ Inv-loop wide bytes byte n all₀ l₀ all l = (l ≤ n) × Holds (hasByte bytes
 abbrev μ-loop : tie.MeasureT-loop
 μ-loop wide bytes byte n all₀ l₀ all l = n - l
 
-labels-requires : tie.Need-labels-requires Inv-loop μ-loop
-labels-requires c κs = search needs
-
-none-requires : tie.Need-none-requires Inv-loop μ-loop
-none-requires c κs = search needs
-
-loop-holds : tie.Need-loop-holds Inv-loop μ-loop
-loop-holds c = (search needs, rw (c .none .ensures) (holds-none _))
-
-element-copy-out-if1 : tie.Need-element-copy-out-if1 Inv-loop μ-loop
-element-copy-out-if1 c = search needs
-
-label-requires : tie.Need-label-requires Inv-loop μ-loop
-label-requires c κs = search needs
-
-single-requires : tie.Need-single-requires Inv-loop μ-loop
-single-requires c κs = search needs
-
-union-requires : tie.Need-union-requires Inv-loop μ-loop
-union-requires c κs = search needs
-
-add-l : tie.Need-add-l Inv-loop μ-loop
-add-l c = search needs
-
-loop-less : tie.Need-loop-less Inv-loop μ-loop
-loop-less c = search needs
-
 loop-again : tie.Need-loop-again Inv-loop μ-loop
 loop-again c =
     let a = c .before .before .before .before .before .before .args in
@@ -67,18 +40,6 @@ returns c =
 
 pub labels-with-spec : {M : Type 1} → statement M
 labels-with-spec =
-    tie.close
-    (tie.spec
-    Inv-loop
-    μ-loop
-    labels-requires
-    none-requires
-    loop-holds
-    element-copy-out-if1
-    label-requires
-    single-requires
-    union-requires
-    add-l
-    loop-less
-    loop-again
-    returns)
+    tie.close (tie.spec Inv-loop μ-loop (λ c κs. search needs) (λ c κs. search needs)
+    (λ c. (search needs, rw (c .none .ensures) (holds-none _))) (λ c. search needs) (λ c κs. search needs) (λ c κs. search needs)
+    (λ c κs. search needs) (λ c. search needs) (λ c. search needs) loop-again returns)

@@ -5,28 +5,10 @@ use Rattle.laying.proofs.Laid.{lays}
 use Rattle.laying.proofs.lay.Statement.{statement}
 use Rattle.laying.proofs.lay.Tie as tie
 
-write-requires : tie.Need-write-requires
-write-requires c κs = row-fits (c .before .before .args .wide) 0 _ (search needs)
-
 write-requires-2 : tie.Need-write-requires-2
 write-requires-2 c κs = row-fits (c .before .before .before .before .before .args .wide) 4 _ (search needs)
 
-returns : tie.Need-returns
-returns c =
-    let a = c .before .before .before .before .before .before .before .before .args in
-    let write2 = c .before .before in
-    let write = write2 .before .before .before in
-    λ p t f m.
-    lays (a .wide) (a .types .now) (a .flags .now) (write .before .before .labels-with .ensures) (write2 .before .before .labels-with2 .ensures) (write .write .ensures) (write2 .write2 .ensures)
-    (c .lay-names .ensures) p m t f
-
 pub lay-spec : {M : Type 1} → statement M
 lay-spec =
-    tie.close
-    (tie.spec
-    (λ c κs. search needs)
-    write-requires
-    (λ c κs. search needs)
-    write-requires-2
-    (λ c κs. search needs)
-    returns)
+    tie.close (tie.spec (λ c κs. search needs) (λ c κs. row-fits (c .before .before .args .wide) 0 _ (search needs))
+    (λ c κs. search needs) write-requires-2 (λ c κs. search needs) (λ c p t f m. search (needs, lays)))

@@ -15,27 +15,6 @@ Inv-loop masks host₀ c₀ host c = (c ≤ 8) × (length host ≡ 16) × Classe
 abbrev μ-loop : tie.MeasureT-loop
 μ-loop masks host₀ c₀ host c = 8 - c
 
-loop-holds : tie.Need-loop-holds Inv-loop μ-loop
-loop-holds c = (search needs, search needs, classes-none _ _)
-
-class-names-requires : tie.Need-class-names-requires Inv-loop μ-loop
-class-names-requires c κs = search needs
-
-add-host : tie.Need-add-host Inv-loop μ-loop
-add-host c = search needs
-
-mul-host : tie.Need-mul-host Inv-loop μ-loop
-mul-host c = search needs
-
-element-write-host : tie.Need-element-write-host Inv-loop μ-loop
-element-write-host c = search needs
-
-add-c : tie.Need-add-c Inv-loop μ-loop
-add-c c = search needs
-
-loop-less : tie.Need-loop-less Inv-loop μ-loop
-loop-less c = search needs
-
 loop-again : tie.Need-loop-again Inv-loop μ-loop
 loop-again c =
     let r = c .before .before .loop in
@@ -46,16 +25,5 @@ returns c = let e : c .before .loop .c ≡ 8 = omega arith in rw e at (c .before
 
 pub lay-names-spec : {M : Type 1} → statement M
 lay-names-spec =
-    tie.close
-    (tie.spec
-    Inv-loop
-    μ-loop
-    loop-holds
-    class-names-requires
-    add-host
-    mul-host
-    element-write-host
-    add-c
-    loop-less
-    loop-again
-    returns)
+    tie.close (tie.spec Inv-loop μ-loop (λ c. (search needs, search needs, classes-none _ _)) (λ c κs. search needs)
+    (λ c. search needs) (λ c. search needs) (λ c. search needs) (λ c. search needs) (λ c. search needs) loop-again returns)

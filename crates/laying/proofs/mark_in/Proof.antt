@@ -4,20 +4,8 @@ use borrow.Author.Needs.{needs}
 use Rattle.laying.proofs.mark_in.Statement.{statement}
 use Rattle.laying.proofs.mark_in.Tie as tie
 
-returns : tie.Need-returns
-returns c = (rw (c .join .ensures, c .before .single .ensures) refl, search needs)
-
 pub mark-in-spec : {M : Type 1} → statement M
 mark-in-spec =
-    tie.close
-    (tie.spec
-    (λ c. search needs)
-    (λ c. search needs)
-    (λ c. search needs)
-    (λ c. search needs)
-    (λ c. search needs)
-    (λ c κs. search needs)
-    (λ c κs. search needs)
-    (λ c. search needs)
-    (λ c. search needs)
-    returns)
+    tie.close (tie.spec (λ c. search needs) (λ c. search needs) (λ c. search needs) (λ c. search needs) (λ c. search needs)
+    (λ c κs. search needs) (λ c κs. search needs) (λ c. search needs) (λ c. search needs)
+    (λ c. (rw (c .join .ensures, c .before .single .ensures) refl, search needs)))

@@ -4,11 +4,5 @@ use borrow.Author.Tests.{eq-eqb, ne-eqb}
 use Rattle.laying.proofs.mask_of.Statement.{statement}
 use Rattle.laying.proofs.mask_of.Tie as tie
 
-returns : tie.Need-returns
-returns c = search (needs, eq-eqb)
-
-returns-2 : tie.Need-returns-2
-returns-2 c = search (needs, ne-eqb)
-
 pub mask-of-spec : {M : Type 1} → statement M
-mask-of-spec = tie.close (tie.spec returns returns-2)
+mask-of-spec = tie.close (tie.spec (λ c. search (needs, eq-eqb)) (λ c. search (needs, ne-eqb)))

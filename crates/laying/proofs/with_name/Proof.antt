@@ -7,8 +7,7 @@ use Rattle.laying.proofs.with_name.Tie as tie
 returns : tie.Need-returns
 returns c = search (needs, eq-eqb, c .join .ensures, c .before .single .ensures, ← c .before .before .before .has .ensures)
 
-returns-2 : tie.Need-returns-2
-returns-2 c = search (needs, ne-eqb, ← c .before .has .ensures)
-
 pub with-name-spec : {M : Type 1} → statement M
-with-name-spec = tie.close (tie.spec (λ c κs. search needs) (λ c κs. search needs) (λ c κs. search needs) returns returns-2)
+with-name-spec =
+    tie.close (tie.spec (λ c κs. search needs) (λ c κs. search needs) (λ c κs. search needs) returns
+    (λ c. search (needs, ne-eqb, ← c .before .has .ensures)))

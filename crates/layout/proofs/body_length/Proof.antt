@@ -37,16 +37,10 @@ low-digit j h = let e : 0 + j ≡ j = omega arith in rw e at (agree-at 0x2313813
 high-digit : (k : ℕ) → 16 ≤ k → k < 32 → digit 0x2222ba43453 (k - 16) ≡ bodyLength k
 high-digit k l h = let e : 16 + (k - 16) ≡ k = omega arith in rw e at (agree-at 0x2222ba43453 16 16 refl (k - 16) (omega arith))
 
-returns : tie.Need-returns
-returns c = low-digit (c .before .args .kind) (search needs)
-
 returns-2 : tie.Need-returns-2
 returns-2 c = high-digit (c .before .before .args .kind) (search needs) (search needs)
 
-returns-3 : tie.Need-returns-3
-returns-3 c = sym (no-kind (c .before .before .args .kind) (search needs))
-
 pub body-length-spec : {M : Type 1} → statement M
 body-length-spec =
-    tie.close
-    (tie.spec (λ c. search needs) (λ c. search needs) returns (λ c. search needs) (λ c. search needs) returns-2 returns-3)
+    tie.close (tie.spec (λ c. search needs) (λ c. search needs) (λ c. low-digit (c .before .args .kind) (search needs))
+    (λ c. search needs) (λ c. search needs) returns-2 (λ c. sym (no-kind (c .before .before .args .kind) (search needs))))

@@ -3,8 +3,5 @@ use mathlib.Core.Path.{refl}
 use Rattle.layout.proofs.classes.Statement.{statement}
 use Rattle.layout.proofs.classes.Tie as tie
 
-returns : tie.Need-returns
-returns c = refl
-
 pub classes-spec : {M : Type 1} → statement M
-classes-spec = tie.close (tie.spec returns)
+classes-spec = tie.close (tie.spec (λ c. refl))

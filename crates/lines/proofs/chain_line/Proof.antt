@@ -1,25 +1,10 @@
 -- One chain: one join. Assumes nothing.
 use borrow.Author.Needs.{needs}
-use lib.ListN.{length}
 use Rattle.sets.specs.Value.{value}
 use Rattle.uses.proofs.Rows.{row-fits, row-read, row-is, read-room}
 use Rattle.lines.proofs.Lines.{chain-applies}
 use Rattle.lines.proofs.chain_line.Statement.{statement}
 use Rattle.lines.proofs.chain_line.Tie as tie
-
-row-requires : tie.Need-row-requires
-row-requires c κs =
-    let chain = c .before in
-    let start = chain .before .before in
-    let a = start .args in
-    row-read (a .wide) (chain .chain .result) (length (a .t .now)) (read-room (a .wide) (start .pre .0)) (chain .chain .ensures .1)
-
-join-requires : tie.Need-join-requires
-join-requires c κs =
-    let chain = c .before .before .before .before .before .before .before .before in
-    let start = chain .before .before in
-    let a = start .args in
-    row-fits (a .wide) (a .o) (chain .chain .result) (length (a .t .now)) (start .pre .0 .room) (chain .chain .ensures .1)
 
 returns : tie.Need-returns
 returns c =
@@ -37,13 +22,5 @@ returns c =
 
 pub chain-line-spec : {M : Type 1} → statement M
 chain-line-spec =
-    tie.close
-    (tie.spec
-    (λ c κs. search needs)
-    row-requires
-    (λ c κs. search needs)
-    (λ c κs. search needs)
-    (λ c κs. search needs)
-    join-requires
-    (λ c. search needs)
-    returns)
+    tie.close (tie.spec (λ c κs. search needs) (λ c κs. search (needs, row-read, read-room)) (λ c κs. search needs)
+    (λ c κs. search needs) (λ c κs. search needs) (λ c κs. search (needs, row-fits)) (λ c. search needs) returns)

@@ -1,6 +1,6 @@
 -- The chains of all declared labels, one after the other. Assumes nothing.
 use borrow.Author.Needs.{needs}
-use mathlib.Core.Path.{_≡_, refl}
+use mathlib.Core.Path.{_≡_}
 use native.Mathlib.Omega.{arith}
 use Prim.Native.Nat.{_-_, _≤_}
 use lib.ListN.{length, take}
@@ -23,12 +23,6 @@ Inv-loop t₀ o wide types keeps₀ count grew₀ l₀ t keeps grew l =
 abbrev μ-loop : tie.MeasureT-loop
 μ-loop t₀ o wide types keeps₀ count grew₀ l₀ t keeps grew l = count - l
 
-labels-requires : tie.Need-labels-requires Inv-loop μ-loop
-labels-requires c κs = search needs
-
-loop-holds : tie.Need-loop-holds Inv-loop μ-loop
-loop-holds c = (refl, search needs, λ p e. lines-none (declared (p .sheet)) (chainRule (p .sheet)))
-
 declared-line-requires : tie.Need-declared-line-requires Inv-loop μ-loop
 declared-line-requires c κs =
     let turn = c .before .before in
@@ -36,12 +30,6 @@ declared-line-requires c κs =
     let count = loop .before in
     let start = count .before .before in
     (rw (loop .loop .inv .0) (start .pre), rw (count .labels .ensures .0) at (turn .loop-test .taken))
-
-add-l : tie.Need-add-l Inv-loop μ-loop
-add-l c = search needs
-
-loop-less : tie.Need-loop-less Inv-loop μ-loop
-loop-less c = search needs
 
 loop-again : tie.Need-loop-again Inv-loop μ-loop
 loop-again c =
@@ -53,9 +41,6 @@ loop-again c =
       λ p e. lines-next (declared (p .sheet)) (chainRule (p .sheet)) (loop .loop .l) (start .pre .apart) (loop .loop .inv .2 p e) (line .declared-line .ensures p e),
     )
 
-same-length : tie.Need-same-length Inv-loop μ-loop
-same-length c = search needs
-
 returns : tie.Need-returns Inv-loop μ-loop
 returns c =
     let loop = c .before in
@@ -66,15 +51,5 @@ returns c =
 
 pub chain-lines-spec : {M : Type 1} → statement M
 chain-lines-spec =
-    tie.close
-    (tie.spec
-    Inv-loop
-    μ-loop
-    labels-requires
-    loop-holds
-    declared-line-requires
-    add-l
-    loop-less
-    loop-again
-    same-length
-    returns)
+    tie.close (tie.spec Inv-loop μ-loop (λ c κs. search needs) (λ c. search (needs, lines-none)) declared-line-requires
+    (λ c. search needs) (λ c. search needs) loop-again (λ c. search needs) returns)

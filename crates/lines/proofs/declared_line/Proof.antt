@@ -8,15 +8,6 @@ use Rattle.lines.proofs.Lines.{no-chain, type-chain}
 use Rattle.lines.proofs.declared_line.Statement.{statement}
 use Rattle.lines.proofs.declared_line.Tie as tie
 
-element-copy-out-kind : tie.Need-element-copy-out-kind
-element-copy-out-kind c = omega (arith, labels-small (c .before .args .wide), c .before .pre .1)
-
-returns : tie.Need-returns
-returns c =
-    let start = c .before .before .before in
-    let a = start .args in
-    λ p e. no-chain (a .types .now) (a .l) (start .pre .1) e (c .if1 .taken)
-
 cast-t10 : tie.Need-cast-t10
 cast-t10 c =
     let start = c .before .before .before .before .before in
@@ -31,4 +22,6 @@ returns-2 c =
     λ p e. type-chain (a .types .now) (getD (a .types .now) (a .l) 0) (a .l) (start .pre .1) e refl (other .if1 .left) (line .chain-line .ensures p)
 
 pub declared-line-spec : {M : Type 1} → statement M
-declared-line-spec = tie.close (tie.spec element-copy-out-kind returns cast-t10 (λ c κs. search needs) (λ c. search needs) returns-2)
+declared-line-spec =
+    tie.close (tie.spec (λ c. omega (arith, labels-small (c .before .args .wide), c .before .pre .1))
+    (λ c p e. search (needs, no-chain)) cast-t10 (λ c κs. search needs) (λ c. search needs) returns-2)

@@ -6,11 +6,6 @@ use Rattle.lines.proofs.Lines.{low-label, on-first}
 use Rattle.lines.proofs.first_on.Statement.{statement}
 use Rattle.lines.proofs.first_on.Tie as tie
 
-single-requires-2 : tie.Need-single-requires-2
-single-requires-2 c κs =
-    let parent = c .before in
-    low-label (parent .before .args .wide) (parent .parent-of .ensures .1)
-
 returns : tie.Need-returns
 returns c =
     let second = c .before in
@@ -21,4 +16,6 @@ returns c =
     (rw (own .single .ensures, second .single2 .ensures) at (c .union .ensures)) (parent .parent-of .ensures .0)
 
 pub first-on-spec : {M : Type 1} → statement M
-first-on-spec = tie.close (tie.spec (λ c κs. search needs) (λ c κs. search needs) single-requires-2 (λ c κs. search needs) returns)
+first-on-spec =
+    tie.close (tie.spec (λ c κs. search needs) (λ c κs. search needs) (λ c κs. search (needs, low-label)) (λ c κs. search needs)
+    returns)

@@ -1,18 +1,10 @@
 -- The prototypes, joined to the guest's chain. Assumes nothing.
 use borrow.Author.Needs.{needs}
 use mathlib.Core.List.{[], _∷_}
-use lib.ListN.{length}
 use Rattle.uses.proofs.Rows.{row-fits}
 use Rattle.lines.proofs.Lines.{guest-used}
 use Rattle.lines.proofs.guest_line.Statement.{statement}
 use Rattle.lines.proofs.guest_line.Tie as tie
-
-join-requires : tie.Need-join-requires
-join-requires c κs =
-    let chain = c .before .before in
-    let start = chain .before .before in
-    let a = start .args in
-    row-fits (a .wide) (a .o) (chain .chain .result) (length (a .t .now)) (start .pre .0 .room) (chain .chain .ensures .1)
 
 returns : tie.Need-returns
 returns c =
@@ -23,4 +15,6 @@ returns c =
     guest-used (a .g .0) (1 ∷ 2 ∷ 4 ∷ []) (chain .chain .ensures .0) (chain .chain .ensures .1) (all .prototypes .ensures) (join .join .ensures)
 
 pub guest-line-spec : {M : Type 1} → statement M
-guest-line-spec = tie.close (tie.spec (λ c κs. search needs) (λ c κs. search needs) join-requires (λ c. search needs) returns)
+guest-line-spec =
+    tie.close (tie.spec (λ c κs. search needs) (λ c κs. search needs) (λ c κs. search (needs, row-fits)) (λ c. search needs)
+    returns)

@@ -6,14 +6,7 @@ use Rattle.lines.proofs.Lines.{parents-other}
 use Rattle.lines.proofs.parent_of.Statement.{statement}
 use Rattle.lines.proofs.parent_of.Tie as tie
 
-returns : tie.Need-returns
-returns c = (ap parentsOf (c .if1 .taken), search needs)
-
-returns-2 : tie.Need-returns-2
-returns-2 c = (ap parentsOf (c .if2 .taken), search needs)
-
-returns-3 : tie.Need-returns-3
-returns-3 c = (parents-other _ (c .before .before .pre) (c .before .if1 .left) (c .if2 .left), search needs)
-
 pub parent-of-spec : {M : Type 1} → statement M
-parent-of-spec = tie.close (tie.spec returns returns-2 returns-3)
+parent-of-spec =
+    tie.close (tie.spec (λ c. (ap parentsOf (c .if1 .taken), search needs)) (λ c. (ap parentsOf (c .if2 .taken), search needs))
+    (λ c. search (needs, parents-other)))

@@ -6,15 +6,6 @@ use Rattle.lines.proofs.Lines.{low-label, on-three}
 use Rattle.lines.proofs.prototypes.Statement.{statement}
 use Rattle.lines.proofs.prototypes.Tie as tie
 
-single-requires : tie.Need-single-requires
-single-requires c κs = low-label (c .args .wide) (omega arith)
-
-single-requires-2 : tie.Need-single-requires-2
-single-requires-2 c κs = low-label (c .before .args .wide) (omega arith)
-
-single-requires-3 : tie.Need-single-requires-3
-single-requires-3 c κs = low-label (c .before .before .args .wide) (omega arith)
-
 returns : tie.Need-returns
 returns c =
     let others = c .before in
@@ -27,11 +18,6 @@ returns c =
 
 pub prototypes-spec : {M : Type 1} → statement M
 prototypes-spec =
-    tie.close
-    (tie.spec
-    single-requires
-    single-requires-2
-    single-requires-3
-    (λ c κs. search needs)
-    (λ c κs. search needs)
-    returns)
+    tie.close (tie.spec (λ c κs. low-label (c .args .wide) (omega arith))
+    (λ c κs. low-label (c .before .args .wide) (omega arith)) (λ c κs. low-label (c .before .before .args .wide) (omega arith))
+    (λ c κs. search needs) (λ c κs. search needs) returns)

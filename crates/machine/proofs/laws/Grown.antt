@@ -1,5 +1,5 @@
 -- A run never takes anything back, whatever the program and wherever it begins. Assumes nothing.
-use mathlib.Core.Path.{_≡_, refl, sym, _∙_, subst}
+use mathlib.Core.Path.{refl, sym, _∙_, subst}
 use mathlib.Core.List.{List, [], _∷_, _++_, List·Memᴰ, Memᴰ·append-left}
 use mathlib.Core.Bool.{Bool, true, false, cond}
 use mathlib.Core.Option.{Option, none, some}
@@ -66,11 +66,11 @@ grown-trans g h =
 -- another element at a place, related to the old one
 changed-at : {A : Type 0} (C : A → A → Type 0) → ((x : A) → C x x) → (xs : List A) (k : ℕ) (x d : A) → C (getD xs k d) x → (i : ℕ) → i < length xs
     → C (getD xs i d) (getD (set xs k x) i d)
-changed-at C same xs k x d h i l = go (ℕ-discrete i k)
-  where
-    go : Dec (i ≡ k) → C (getD xs i d) (getD (set xs k x) i d)
-    go (no e) = subst (C (getD xs i d)) (sym (getD-set-other xs k i x d e)) (same (getD xs i d))
-    go (yes e) = let q : k < length xs = omega arith in rw (e, getD-set-same xs k x d q) h
+changed-at C same xs k x d h i l =
+    elim (ℕ-discrete i k) [
+      | no e ↦ subst (C (getD xs i d)) (sym (getD-set-other xs k i x d e)) (same (getD xs i d))
+      | yes e ↦ (let q : k < length xs = omega arith in rw (e, getD-set-same xs k x d q) h)
+    ]
 
 pub grown-object : (s : State) (o : Object) → Grown s (withObject s o)
 grown-object s o =

@@ -18,11 +18,11 @@ use Rattle.machine.specs.Start.{Filling, property, held, nothing, fillin
 
 pub member-mem : (x : ℕ) (xs : List ℕ) → member x xs ≡ true → List·Memᴰ x xs
 member-mem x [] e = absurd (true≢false (sym e))
-member-mem x (y ∷ ys) e = go (or-true (eqb x y) (member x ys) e) (member-mem x ys)
-  where
-    go : (eqb x y ≡ true) ⊎ (member x ys ≡ true) → (member x ys ≡ true → List·Memᴰ x ys) → List·Memᴰ x (y ∷ ys)
-    go (inl q) rest = List·Memᴰ·head (eqb-true x y q)
-    go (inr q) rest = List·Memᴰ·tail (rest q)
+member-mem x (y ∷ ys) e =
+    elim (or-true (eqb x y) (member x ys) e) [
+      | inl q ↦ List·Memᴰ·head (eqb-true x y q)
+      | inr q ↦ List·Memᴰ·tail (member-mem x ys q)
+    ]
 
 -- ---- which labels stand at the start
 
@@ -78,11 +78,11 @@ fillings-begin a (x ∷ xs) = prefix-trans (filling-begins a x .0) (fillings-beg
 
 pub fillings-listed : (a : List ℕ) (xs : List Filling) (x : Filling) → List·Memᴰ x xs → Listed (labelsFrom a xs) x
 fillings-listed a [] x m = absurd (List·Memᴰ·not-nil m)
-fillings-listed a (y ∷ ys) x m = go (List·Memᴰ·cases-cons m) (fillings-listed (labelsWith a y) ys x)
-  where
-    go : (x ≡ y) ⊎ List·Memᴰ x ys → (List·Memᴰ x ys → Listed (labelsFrom (labelsWith a y) ys) x) → Listed (labelsFrom (labelsWith a y) ys) x
-    go (inl e) rest = rw e (listed-more (fillings-begin (labelsWith a y) ys) (filling-begins a y .1))
-    go (inr q) rest = rest q
+fillings-listed a (y ∷ ys) x m =
+    elim (List·Memᴰ·cases-cons m) [
+      | inl e ↦ rw e (listed-more (fillings-begin (labelsWith a y) ys) (filling-begins a y .1))
+      | inr q ↦ fillings-listed (labelsWith a y) ys x q
+    ]
 
 -- a statement is of kind 7 or 8, or puts nothing in the start
 pub data Fills : say.Statement → Type 0 where

@@ -5,12 +5,10 @@ use Rattle.program.proofs.File.{plain, functionLabel, builtInFunction, takes, f
 use Rattle.machine.proofs.runs.Run.{guestMakeFunction, guestCall, host, atPair, picks, does, grants, lends, loads, outcome, EndsWith}
 
 -- listed file 8: the guest calls 6, whose return reads variable 2 in the top frame
-pub host-return : EndsWith
-    (journal ++ (variable 3 ∷ function 6 ∷ held 3 6 ∷ grant 3 ∷ return 6 2 ∷ []))
+pub host-return : EndsWith (journal ++ (variable 3 ∷ function 6 ∷ held 3 6 ∷ grant 3 ∷ return 6 2 ∷ []))
     (grants 3 ∷
     does guestCall 1 ∷  -- 6: frame 2
-    does (host (return 6 2)) 2 ∷
-    [])
+    does (host (return 6 2)) 2 ∷ [])
     (6 ∷ 5 ∷ [])
 unfolding outcome
 host-return = refl
@@ -21,10 +19,7 @@ pub host-arguments : EndsWith
     variable 3 ∷ variable 6 ∷ variable 7 ∷ variable 8 ∷ variable 9 ∷ variable 10 ∷ variable 11 ∷
     held 6 6 ∷ held 7 7 ∷ held 8 8 ∷ held 9 9 ∷ held 10 10 ∷ held 11 11 ∷
     grant 3 ∷ call 0 0 3 2 (6 ∷ 7 ∷ 8 ∷ 9 ∷ 10 ∷ 11 ∷ []) ∷ []))
-    (does guestMakeFunction 1 ∷
-    lends 3 0 ∷
-    does (host (call 0 0 3 2 (6 ∷ 7 ∷ 8 ∷ 9 ∷ 10 ∷ 11 ∷ []))) 0 ∷
-    [])
+    (does guestMakeFunction 1 ∷ lends 3 0 ∷ does (host (call 0 0 3 2 (6 ∷ 7 ∷ 8 ∷ 9 ∷ 10 ∷ 11 ∷ []))) 0 ∷ [])
     (3 ∷ 5 ∷ 6 ∷ 7 ∷ 8 ∷ 9 ∷ 10 ∷ 11 ∷ [])
 unfolding outcome
 host-arguments = refl
@@ -41,8 +36,7 @@ pub guest-arguments : EndsWith
     (grants 7 ∷ grants 8 ∷ grants 9 ∷ grants 10 ∷ grants 11 ∷ grants 12 ∷ grants 13 ∷ grants 6 ∷
     picks guestCall 1 (7 ∷ 6 ∷ 5 ∷ 4 ∷ 3 ∷ 2 ∷ 1 ∷ 0 ∷ []) ∷  -- 6: frame 2
     does (host (return 6 20)) 2 ∷ does (host (return 6 21)) 2 ∷ does (host (return 6 22)) 2 ∷ does (host (return 6 23)) 2 ∷
-    does (host (return 6 24)) 2 ∷ does (host (return 6 25)) 2 ∷ does (host (return 6 26)) 2 ∷
-    [])
+    does (host (return 6 24)) 2 ∷ does (host (return 6 25)) 2 ∷ does (host (return 6 26)) 2 ∷ [])
     (7 ∷ 8 ∷ 9 ∷ 10 ∷ 11 ∷ 12 ∷ 13 ∷ 6 ∷ 13 ∷ 12 ∷ 11 ∷ 10 ∷ 9 ∷ 8 ∷ 7 ∷ [])
 unfolding outcome
 guest-arguments = refl
@@ -54,8 +48,7 @@ pub different-values : EndsWith
     does guestMakeFunction 1 ∷
     picks guestCall 1 (0 ∷ 0 ∷ 1 ∷ []) ∷  -- 6: frame 2
     atPair (host (store 6 4 4 2)) 2 [] 4 0 ∷
-    loads 1 4 0 ∷
-    [])
+    loads 1 4 0 ∷ [])
     (6 ∷ 3 ∷ 5 ∷ [])
 unfolding outcome
 different-values = refl
@@ -68,8 +61,7 @@ pub same-value : EndsWith
     does guestCall 1 ∷  -- 6: frame 2
     atPair (host (store 6 4 4 2)) 2 [] 4 0 ∷
     loads 0 4 0 ∷
-    loads 1 4 0 ∷
-    [])
+    loads 1 4 0 ∷ [])
     (6 ∷ 3 ∷ [])
 unfolding outcome
 same-value = refl
@@ -83,8 +75,7 @@ pub returned-to-result : EndsWith
     does (host (call 6 5 4 0 [])) 2 ∷  -- 7: frame 3
     does (host (return 7 2)) 3 ∷
     does (host (return 6 5)) 2 ∷
-    does (host (return 6 5)) 2 ∷
-    [])
+    does (host (return 6 5)) 2 ∷ [])
     (6 ∷ 5 ∷ 5 ∷ [])
 unfolding outcome
 returned-to-result = refl
@@ -103,8 +94,7 @@ pub two-callers : EndsWith
     does (host (return 7 12)) 4 ∷
     does (host (return 7 12)) 5 ∷
     does (host (return 6 11)) 3 ∷
-    does (host (return 6 11)) 2 ∷
-    [])
+    does (host (return 6 11)) 2 ∷ [])
     (6 ∷ 8 ∷ 9 ∷ 9 ∷ 8 ∷ [])
 unfolding outcome
 two-callers = refl
@@ -115,31 +105,26 @@ pub returns-again : EndsWith
     (grants 3 ∷
     does guestCall 1 ∷  -- 6: frame 2
     does (host (return 6 4)) 2 ∷
-    does (host (return 6 2)) 2 ∷
-    [])
+    does (host (return 6 2)) 2 ∷ [])
     (6 ∷ 7 ∷ 5 ∷ [])
 unfolding outcome
 returns-again = refl
 
 -- a primitive returned from a call takes the place of what the result held
-pub primitive-result : EndsWith
-    (journal ++ (function 6 ∷ variable 3 ∷ held 3 6 ∷ call 0 2 3 0 [] ∷ return 6 0 ∷ grant 2 ∷ []))
+pub primitive-result : EndsWith (journal ++ (function 6 ∷ variable 3 ∷ held 3 6 ∷ call 0 2 3 0 [] ∷ return 6 0 ∷ grant 2 ∷ []))
     (does (host (call 0 2 3 0 [])) 0 ∷  -- 6: frame 2
     does (host (return 6 0)) 2 ∷
-    grants 2 ∷
-    [])
+    grants 2 ∷ [])
     []
 unfolding outcome
 primitive-result = refl
 
 -- calling what is no function makes no frame: the next call's is frame 2
-pub call-on-primitive : EndsWith
-    (journal ++ (function 6 ∷ variable 3 ∷ held 3 6 ∷ grant 3 ∷ call 0 0 0 0 [] ∷ return 6 2 ∷ []))
+pub call-on-primitive : EndsWith (journal ++ (function 6 ∷ variable 3 ∷ held 3 6 ∷ grant 3 ∷ call 0 0 0 0 [] ∷ return 6 2 ∷ []))
     (does (host (call 0 0 0 0 [])) 0 ∷
     grants 3 ∷
     does guestCall 1 ∷  -- 6: frame 2
-    does (host (return 6 2)) 2 ∷
-    [])
+    does (host (return 6 2)) 2 ∷ [])
     (6 ∷ 5 ∷ [])
 unfolding outcome
 call-on-primitive = refl

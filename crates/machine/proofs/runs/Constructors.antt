@@ -10,10 +10,7 @@ pub new-on-guest : EndsWith
     variable 6 ∷ variable 7 ∷ variable 8 ∷ variable 9 ∷ variable 10 ∷ variable 11 ∷
     held 6 6 ∷ held 7 7 ∷ held 8 8 ∷ held 9 9 ∷ held 10 10 ∷ held 11 11 ∷
     grant 3 ∷ new 0 0 3 4 5 (6 ∷ 7 ∷ 8 ∷ 9 ∷ 10 ∷ 11 ∷ []) ∷ []))
-    (does guestMakeFunction 1 ∷
-    lends 3 0 ∷
-    does (host (new 0 0 3 4 5 (6 ∷ 7 ∷ 8 ∷ 9 ∷ 10 ∷ 11 ∷ []))) 0 ∷
-    [])
+    (does guestMakeFunction 1 ∷ lends 3 0 ∷ does (host (new 0 0 3 4 5 (6 ∷ 7 ∷ 8 ∷ 9 ∷ 10 ∷ 11 ∷ []))) 0 ∷ [])
     (3 ∷ 5 ∷ 6 ∷ 7 ∷ 8 ∷ 9 ∷ 10 ∷ 11 ∷ [])
 unfolding outcome
 new-on-guest = refl
@@ -26,8 +23,7 @@ pub new-in-a-function : EndsWith
     does guestCall 1 ∷  -- 6: frame 2
     does (host (new 6 4 7 5 5 [])) 2 ∷  -- 7: frame 3
     does (host (return 6 4)) 2 ∷
-    does (host (return 6 5)) 2 ∷
-    [])
+    does (host (return 6 5)) 2 ∷ [])
     (6 ∷ 5 ∷ 5 ∷ [])
 unfolding outcome
 new-in-a-function = refl
@@ -40,8 +36,7 @@ pub new-in-both : EndsWith
     atPair (host (store 0 4 10 2)) 0 [] 10 0 ∷
     grants 4 ∷
     grants 6 ∷
-    loads 1 10 0 ∷
-    [])
+    loads 1 10 0 ∷ [])
     (7 ∷ 7 ∷ 5 ∷ [])
 unfolding outcome
 new-in-both = refl
@@ -55,8 +50,7 @@ pub found-by-new : EndsWith
     atPair (host (store 0 4 10 2)) 0 [] 10 0 ∷
     does (host (new 0 0 3 5 8 [])) 0 ∷
     grants 5 ∷
-    loads 0 10 0 ∷
-    [])
+    loads 0 10 0 ∷ [])
     (8 ∷ 5 ∷ [])
 unfolding outcome
 found-by-new = refl
@@ -65,10 +59,7 @@ found-by-new = refl
 pub found-along-by-new : EndsWith
     (forbidden ++ (variable 3 ∷ variable 5 ∷ function 6 ∷ plain 7 ∷ plain 8 ∷
     property 2 3 7 ∷ property 7 10 5 ∷ held 3 6 ∷ new 0 0 3 5 8 [] ∷ grant 5 ∷ []))
-    (does (host (new 0 0 3 5 8 [])) 0 ∷
-    grants 5 ∷
-    loads 0 10 0 ∷
-    [])
+    (does (host (new 0 0 3 5 8 [])) 0 ∷ grants 5 ∷ loads 0 10 0 ∷ [])
     (8 ∷ 5 ∷ [])
 unfolding outcome
 found-along-by-new = refl
@@ -77,10 +68,7 @@ found-along-by-new = refl
 pub found-by-number : EndsWith
     (forbidden ++ (variable 3 ∷ variable 5 ∷ function 6 ∷ plain 7 ∷ plain 8 ∷ plain 9 ∷
     property 6 3 7 ∷ property 6 3 9 ∷ property 9 10 5 ∷ held 3 6 ∷ new 0 0 3 5 8 [] ∷ grant 5 ∷ []))
-    (atPair (host (new 0 0 3 5 8 [])) 0 [] 0 1 ∷
-    grants 5 ∷
-    loads 0 10 0 ∷
-    [])
+    (atPair (host (new 0 0 3 5 8 [])) 0 [] 0 1 ∷ grants 5 ∷ loads 0 10 0 ∷ [])
     (8 ∷ 5 ∷ [])
 unfolding outcome
 found-by-number = refl
@@ -88,11 +76,7 @@ found-by-number = refl
 -- where nothing is under name 3, the prototype is Object.prototype, and not Function.prototype
 pub nothing-found-by-new : EndsWith
     (forbidden ++ (variable 3 ∷ variable 5 ∷ function 6 ∷ plain 8 ∷ property 1 10 5 ∷ property 2 11 8 ∷ held 3 6 ∷ new 0 0 3 5 8 [] ∷ grant 5 ∷ []))
-    (does (host (new 0 0 3 5 8 [])) 0 ∷
-    grants 5 ∷
-    loads 0 11 0 ∷
-    loads 0 10 0 ∷
-    [])
+    (does (host (new 0 0 3 5 8 [])) 0 ∷ grants 5 ∷ loads 0 11 0 ∷ loads 0 10 0 ∷ [])
     (8 ∷ 5 ∷ [])
 unfolding outcome
 nothing-found-by-new = refl
@@ -105,8 +89,7 @@ pub primitive-found-by-new : EndsWith
     does (host (new 0 0 3 5 8 [])) 0 ∷
     grants 5 ∷
     loads 0 11 0 ∷
-    loads 0 10 0 ∷
-    [])
+    loads 0 10 0 ∷ [])
     (8 ∷ 5 ∷ [])
 unfolding outcome
 primitive-found-by-new = refl
@@ -120,8 +103,7 @@ pub prototype-fixed : EndsWith
     atPair (host (store 0 5 12 4)) 0 [] 12 0 ∷
     grants 5 ∷
     loads 0 11 0 ∷  -- nothing: that is in the other one
-    loads 0 10 0 ∷
-    [])
+    loads 0 10 0 ∷ [])
     (8 ∷ 5 ∷ [])
 unfolding outcome
 prototype-fixed = refl
@@ -131,8 +113,7 @@ pub primitive-returned : EndsWith
     (forbidden ++ (variable 3 ∷ variable 4 ∷ variable 6 ∷ function 6 ∷ held 3 6 ∷ new 0 6 3 4 5 [] ∷ return 6 0 ∷ grant 6 ∷ []))
     (does (host (new 0 6 3 4 5 [])) 0 ∷  -- 6: frame 2
     does (host (return 6 0)) 2 ∷
-    grants 6 ∷
-    [])
+    grants 6 ∷ [])
     (5 ∷ [])
 unfolding outcome
 primitive-returned = refl
@@ -144,21 +125,18 @@ pub object-returned : EndsWith
     (does (host (new 0 6 3 4 7 [])) 0 ∷  -- 6: frame 2
     does (host (return 6 2)) 2 ∷
     grants 6 ∷
-    grants 4 ∷
-    [])
+    grants 4 ∷ [])
     (5 ∷ 7 ∷ [])
 unfolding outcome
 object-returned = refl
 
 -- a constructor throws the journal, which its caller gets
-pub constructor-throws : EndsWith
-    (journal ++ (variable 3 ∷ function 6 ∷ held 3 6 ∷ grant 3 ∷ throw 6 2 ∷ []))
+pub constructor-throws : EndsWith (journal ++ (variable 3 ∷ function 6 ∷ held 3 6 ∷ grant 3 ∷ throw 6 2 ∷ []))
     (grants 3 ∷
     does guestNew 1 ∷  -- 6: frame 2
     does (host (throw 6 2)) 2 ∷
     hands 2 0 ∷
-    does guestCatch 1 ∷
-    [])
+    does guestCatch 1 ∷ [])
     (6 ∷ 3 ∷ 3 ∷ 5 ∷ [])
 unfolding outcome
 constructor-throws = refl
@@ -176,8 +154,7 @@ pub guest-new : EndsWith
     (grants 7 ∷ grants 8 ∷ grants 9 ∷ grants 10 ∷ grants 11 ∷ grants 12 ∷ grants 6 ∷
     picks guestNew 1 (6 ∷ 0 ∷ 5 ∷ 4 ∷ 3 ∷ 2 ∷ 1 ∷ 0 ∷ []) ∷  -- 6: frame 2
     does (host (return 6 20)) 2 ∷ does (host (return 6 21)) 2 ∷ does (host (return 6 22)) 2 ∷ does (host (return 6 23)) 2 ∷
-    does (host (return 6 24)) 2 ∷ does (host (return 6 25)) 2 ∷ does (host (return 6 26)) 2 ∷
-    [])
+    does (host (return 6 24)) 2 ∷ does (host (return 6 25)) 2 ∷ does (host (return 6 26)) 2 ∷ [])
     (7 ∷ 8 ∷ 9 ∷ 10 ∷ 11 ∷ 12 ∷ 6 ∷ 3 ∷ 3 ∷ 3 ∷ 12 ∷ 11 ∷ 10 ∷ 9 ∷ 8 ∷ 7 ∷ [])
 unfolding outcome
 guest-new = refl
@@ -185,10 +162,7 @@ guest-new = refl
 -- what the guest makes by `new` takes the prototype that is found, as what the host makes does
 pub guest-new-prototype : EndsWith
     (forbidden ++ (variable 3 ∷ function 6 ∷ plain 7 ∷ property 6 3 7 ∷ property 7 10 5 ∷ held 3 6 ∷ grant 3 ∷ []))
-    (grants 3 ∷
-    does guestNew 1 ∷
-    loads 1 10 0 ∷
-    [])
+    (grants 3 ∷ does guestNew 1 ∷ loads 1 10 0 ∷ [])
     (6 ∷ 3 ∷ 3 ∷ 5 ∷ [])
 unfolding outcome
 guest-new-prototype = refl
@@ -196,11 +170,7 @@ guest-new-prototype = refl
 -- what the guest makes by `new` can be called: the host calls it with the journal
 pub guest-new-called : EndsWith
     (journal ++ (variable 3 ∷ variable 4 ∷ function 6 ∷ held 3 6 ∷ grant 3 ∷ grant 4 ∷ call 0 0 4 0 (2 ∷ []) ∷ []))
-    (grants 3 ∷
-    does guestNew 1 ∷
-    lends 4 1 ∷
-    does (host (call 0 0 4 0 (2 ∷ []))) 0 ∷
-    [])
+    (grants 3 ∷ does guestNew 1 ∷ lends 4 1 ∷ does (host (call 0 0 4 0 (2 ∷ []))) 0 ∷ [])
     (6 ∷ 3 ∷ 3 ∷ 5 ∷ [])
 unfolding outcome
 guest-new-called = refl

@@ -5,11 +5,8 @@ use Rattle.program.proofs.File.{plain, functionLabel, takes, function, variable
 use Rattle.machine.proofs.runs.Run.{guestMakeFunction, guestCall, host, atPair, picks, does, hands, grants, lends, loads, outcome, EndsWith}
 
 -- a copy at the top level
-pub copied : EndsWith
-    (journal ++ (variable 3 ∷ copy 0 3 2 ∷ grant 3 ∷ []))
-    (does (host (copy 0 3 2)) 0 ∷
-    grants 3 ∷
-    [])
+pub copied : EndsWith (journal ++ (variable 3 ∷ copy 0 3 2 ∷ grant 3 ∷ []))
+    (does (host (copy 0 3 2)) 0 ∷ grants 3 ∷ [])
     (5 ∷ [])
 unfolding outcome
 copied = refl
@@ -24,8 +21,7 @@ pub closure : EndsWith
     does (host (makeFunction 6 5 7 8)) 2 ∷
     does (host (return 6 5)) 2 ∷
     picks guestCall 1 (1 ∷ []) ∷  -- 7: frame 3
-    does (host (return 7 4)) 3 ∷
-    [])
+    does (host (return 7 4)) 3 ∷ [])
     (6 ∷ 7 ∷ 5 ∷ [])
 unfolding outcome
 closure = refl
@@ -44,8 +40,7 @@ pub outward-of-outward : EndsWith
     does (host (return 7 10)) 3 ∷
     picks guestCall 1 (2 ∷ []) ∷  -- 9: frame 4
     does (host (return 9 4)) 4 ∷
-    does (host (return 9 3)) 4 ∷
-    [])
+    does (host (return 9 3)) 4 ∷ [])
     (6 ∷ 7 ∷ 9 ∷ 5 ∷ 6 ∷ [])
 unfolding outcome
 outward-of-outward = refl
@@ -63,8 +58,7 @@ pub nearest-of-two : EndsWith
     does (host (return 6 4)) 3 ∷  -- nothing yet
     does (host (copy 6 4 7)) 3 ∷
     does (host (return 6 4)) 3 ∷
-    does (host (return 6 4)) 2 ∷
-    [])
+    does (host (return 6 4)) 2 ∷ [])
     (6 ∷ 6 ∷ 7 ∷ 5 ∷ [])
 unfolding outcome
 nearest-of-two = refl
@@ -77,8 +71,7 @@ pub two-frames-of-one-scope : EndsWith
     picks guestCall 1 (0 ∷ 0 ∷ 1 ∷ []) ∷  -- 6 with 7: frame 2
     picks guestCall 1 (0 ∷ 0 ∷ 2 ∷ []) ∷  -- 6 with 8: frame 3
     does (host (return 6 4)) 3 ∷
-    does (host (return 6 4)) 2 ∷
-    [])
+    does (host (return 6 4)) 2 ∷ [])
     (6 ∷ 7 ∷ 8 ∷ 8 ∷ 7 ∷ [])
 unfolding outcome
 two-frames-of-one-scope = refl
@@ -102,40 +95,30 @@ pub fields-in-own-frame : EndsWith
     does (host (catch 0 12)) 0 ∷
     grants 12 ∷  -- the journal
     atPair (host (store 6 8 1 4)) 2 [] 1 0 ∷
-    atPair (host (prim 6 8)) 2 [] 1 0 ∷  -- and 7
-    [])
+    atPair (host (prim 6 8)) 2 [] 1 0 ∷ [])  -- and 7
     (3 ∷ 7 ∷ 5 ∷ 5 ∷ 9 ∷ 7 ∷ 5 ∷ 7 ∷ [])
 unfolding outcome
 fields-in-own-frame = refl
 
 -- a function writes a variable of the top frame
-pub written-outward : EndsWith
-    (journal ++ (variable 3 ∷ variable 4 ∷ function 6 ∷ held 3 6 ∷ call 0 0 3 0 [] ∷ copy 6 4 2 ∷ grant 4 ∷ []))
+pub written-outward : EndsWith (journal ++ (variable 3 ∷ variable 4 ∷ function 6 ∷ held 3 6 ∷ call 0 0 3 0 [] ∷ copy 6 4 2 ∷ grant 4 ∷ []))
     (does (host (call 0 0 3 0 [])) 0 ∷  -- 6: frame 2
     does (host (copy 6 4 2)) 2 ∷
-    grants 4 ∷
-    [])
+    grants 4 ∷ [])
     (5 ∷ [])
 unfolding outcome
 written-outward = refl
 
 -- a named variable that holds the journal is a property of the global object
-pub named-variable : EndsWith
-    (forbidden ++ (named 2 4 ∷ held 2 5 ∷ variable 3 ∷ held 3 0 ∷ grant 3 ∷ []))
-    (grants 3 ∷
-    loads 0 4 0 ∷
-    [])
+pub named-variable : EndsWith (forbidden ++ (named 2 4 ∷ held 2 5 ∷ variable 3 ∷ held 3 0 ∷ grant 3 ∷ []))
+    (grants 3 ∷ loads 0 4 0 ∷ [])
     (0 ∷ 5 ∷ [])
 unfolding outcome
 named-variable = refl
 
 -- what a copy writes to a named variable is under the pair (4, 0) of the global object
-pub named-written : EndsWith
-    (journal ++ (named 4 4 ∷ variable 3 ∷ held 3 0 ∷ grant 3 ∷ copy 0 4 2 ∷ []))
-    (does (host (copy 0 4 2)) 0 ∷
-    grants 3 ∷
-    loads 0 4 0 ∷
-    [])
+pub named-written : EndsWith (journal ++ (named 4 4 ∷ variable 3 ∷ held 3 0 ∷ grant 3 ∷ copy 0 4 2 ∷ []))
+    (does (host (copy 0 4 2)) 0 ∷ grants 3 ∷ loads 0 4 0 ∷ [])
     (0 ∷ 5 ∷ [])
 unfolding outcome
 named-written = refl
@@ -146,17 +129,14 @@ pub named-read : EndsWith
     (atPair (host (store 0 3 4 2)) 0 [] 4 0 ∷
     grants 6 ∷
     does guestCall 1 ∷  -- 6: frame 2
-    does (host (return 6 4)) 2 ∷
-    [])
+    does (host (return 6 4)) 2 ∷ [])
     (6 ∷ 5 ∷ [])
 unfolding outcome
 named-read = refl
 
 -- it is the number 0 of its name, whatever is chosen: the journal is under (4, 1)
-pub named-number : EndsWith
-    (forbidden ++ (plain 6 ∷ named 2 4 ∷ property 0 4 6 ∷ property 0 4 5 ∷ grant 2 ∷ []))
-    (atPair (host (grant 2)) 0 (1 ∷ []) 4 1 ∷
-    [])
+pub named-number : EndsWith (forbidden ++ (plain 6 ∷ named 2 4 ∷ property 0 4 6 ∷ property 0 4 5 ∷ grant 2 ∷ []))
+    (atPair (host (grant 2)) 0 (1 ∷ []) 4 1 ∷ [])
     (6 ∷ [])
 unfolding outcome
 named-number = refl

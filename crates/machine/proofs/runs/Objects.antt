@@ -5,23 +5,18 @@ use Rattle.program.proofs.File.{name, plain, functionLabel, array, takes, funct
 use Rattle.machine.proofs.runs.Run.{guestCall, host, atPair, picks, does, grants, loads, outcome, EndsWith}
 
 -- the host makes the journal
-pub made : EndsWith
-    (forbidden ++ (variable 3 ∷ make 0 3 5 ∷ grant 3 ∷ []))
-    (does (host (make 0 3 5)) 0 ∷
-    grants 3 ∷
-    [])
+pub made : EndsWith (forbidden ++ (variable 3 ∷ make 0 3 5 ∷ grant 3 ∷ []))
+    (does (host (make 0 3 5)) 0 ∷ grants 3 ∷ [])
     (5 ∷ [])
 unfolding outcome
 made = refl
 
 -- function 6 makes it
-pub made-in-a-function : EndsWith
-    (forbidden ++ (function 6 ∷ local 4 6 ∷ variable 3 ∷ held 3 6 ∷ grant 3 ∷ make 6 4 5 ∷ return 6 4 ∷ []))
+pub made-in-a-function : EndsWith (forbidden ++ (function 6 ∷ local 4 6 ∷ variable 3 ∷ held 3 6 ∷ grant 3 ∷ make 6 4 5 ∷ return 6 4 ∷ []))
     (grants 3 ∷
     does guestCall 1 ∷  -- 6: frame 2
     does (host (make 6 4 5)) 2 ∷
-    does (host (return 6 4)) 2 ∷
-    [])
+    does (host (return 6 4)) 2 ∷ [])
     (6 ∷ 5 ∷ [])
 unfolding outcome
 made-in-a-function = refl
@@ -38,8 +33,7 @@ pub prototypes-of-made : EndsWith
     loads 0 21 0 ∷ loads 0 22 0 ∷ loads 0 24 0 ∷  -- of the plain object only the first is found
     loads 1 22 0 ∷ loads 1 24 0 ∷  -- of the function the one
     loads 2 22 0 ∷ loads 2 24 0 ∷  -- of the array the other
-    loads 3 21 0 ∷ loads 3 22 0 ∷ loads 3 24 0 ∷
-    [])
+    loads 3 21 0 ∷ loads 3 22 0 ∷ loads 3 24 0 ∷ [])
     (6 ∷ 7 ∷ 8 ∷ 9 ∷ 5 ∷ 10 ∷ 11 ∷ 5 ∷ [])
 unfolding outcome
 prototypes-of-made = refl
@@ -56,8 +50,7 @@ pub own-prototype-property : EndsWith
     grants 4 ∷
     loads 0 3 0 ∷ loads 1 3 0 ∷
     loads 3 10 0 ∷  -- nothing in the second one
-    loads 2 10 0 ∷
-    [])
+    loads 2 10 0 ∷ [])
     (6 ∷ 6 ∷ 7 ∷ 7 ∷ 5 ∷ [])
 unfolding outcome
 own-prototype-property = refl
@@ -71,8 +64,7 @@ pub made-twice : EndsWith
     grants 3 ∷
     grants 4 ∷
     loads 1 10 0 ∷
-    loads 0 10 0 ∷
-    [])
+    loads 0 10 0 ∷ [])
     (6 ∷ 6 ∷ 5 ∷ [])
 unfolding outcome
 made-twice = refl
@@ -82,11 +74,7 @@ made-twice = refl
 -- a load goes on from Function.prototype and from Array.prototype to Object.prototype
 pub along-two-prototypes : EndsWith
     (forbidden ++ (function 6 ∷ array 7 ∷ variable 3 ∷ variable 4 ∷ held 3 6 ∷ held 4 7 ∷ property 1 10 5 ∷ grant 3 ∷ grant 4 ∷ []))
-    (grants 3 ∷
-    grants 4 ∷
-    loads 0 10 0 ∷
-    loads 1 10 0 ∷
-    [])
+    (grants 3 ∷ grants 4 ∷ loads 0 10 0 ∷ loads 1 10 0 ∷ [])
     (6 ∷ 7 ∷ 5 ∷ 5 ∷ [])
 unfolding outcome
 along-two-prototypes = refl
@@ -99,8 +87,7 @@ pub along-four-prototypes : EndsWith
     atPair (host (store 0 3 3 5)) 0 [] 3 0 ∷
     does (host (new 0 0 3 6 9 [])) 0 ∷
     grants 6 ∷
-    loads 0 20 0 ∷
-    [])
+    loads 0 20 0 ∷ [])
     (9 ∷ 5 ∷ [])
 unfolding outcome
 along-four-prototypes = refl
@@ -108,20 +95,14 @@ along-four-prototypes = refl
 -- the object's own value is found before that of its prototype, but only the same pair
 pub own-value-first : EndsWith
     (forbidden ++ (plain 6 ∷ plain 7 ∷ plain 8 ∷ variable 3 ∷ held 3 6 ∷ property 6 10 7 ∷ property 1 10 8 ∷ property 1 10 5 ∷ grant 3 ∷ []))
-    (grants 3 ∷
-    loads 0 10 0 ∷
-    loads 0 10 1 ∷
-    [])
+    (grants 3 ∷ loads 0 10 0 ∷ loads 0 10 1 ∷ [])
     (6 ∷ 7 ∷ 5 ∷ [])
 unfolding outcome
 own-value-first = refl
 
 -- a load on variable 0 starts from a fresh w, and finds the journal on its chain, under any pair
-pub load-on-primitive : EndsWith
-    (forbidden ++ (plain 6 ∷ property 1 4 6 ∷ property 1 4 5 ∷ variable 2 ∷ load 0 2 0 4 6 ∷ grant 2 ∷ []))
-    (atPair (host (load 0 2 0 4 6)) 0 [] 4 1 ∷
-    grants 2 ∷
-    [])
+pub load-on-primitive : EndsWith (forbidden ++ (plain 6 ∷ property 1 4 6 ∷ property 1 4 5 ∷ variable 2 ∷ load 0 2 0 4 6 ∷ grant 2 ∷ []))
+    (atPair (host (load 0 2 0 4 6)) 0 [] 4 1 ∷ grants 2 ∷ [])
     (5 ∷ [])
 unfolding outcome
 load-on-primitive = refl
@@ -132,28 +113,21 @@ pub load-on-primitive-in-a-function : EndsWith
     (grants 3 ∷
     does guestCall 1 ∷  -- 6: frame 2
     atPair (host (load 6 4 0 10 7)) 2 [] 10 0 ∷
-    does (host (return 6 4)) 2 ∷
-    [])
+    does (host (return 6 4)) 2 ∷ [])
     (6 ∷ 5 ∷ [])
 unfolding outcome
 load-on-primitive-in-a-function = refl
 
 -- w is fresh: what the object of its label had at the start is not in it
-pub load-from-fresh : EndsWith
-    (forbidden ++ (plain 6 ∷ property 6 4 5 ∷ variable 2 ∷ load 0 2 0 4 6 ∷ grant 2 ∷ []))
-    (atPair (host (load 0 2 0 4 6)) 0 [] 4 0 ∷
-    grants 2 ∷
-    [])
+pub load-from-fresh : EndsWith (forbidden ++ (plain 6 ∷ property 6 4 5 ∷ variable 2 ∷ load 0 2 0 4 6 ∷ grant 2 ∷ []))
+    (atPair (host (load 0 2 0 4 6)) 0 [] 4 0 ∷ grants 2 ∷ [])
     []
 unfolding outcome
 load-from-fresh = refl
 
 -- nothing found is a primitive, which takes the place of what y held
-pub nothing-found : EndsWith
-    (journal ++ (plain 6 ∷ variable 3 ∷ held 3 6 ∷ load 0 2 3 4 6 ∷ grant 2 ∷ []))
-    (atPair (host (load 0 2 3 4 6)) 0 [] 4 0 ∷
-    grants 2 ∷
-    [])
+pub nothing-found : EndsWith (journal ++ (plain 6 ∷ variable 3 ∷ held 3 6 ∷ load 0 2 3 4 6 ∷ grant 2 ∷ []))
+    (atPair (host (load 0 2 3 4 6)) 0 [] 4 0 ∷ grants 2 ∷ [])
     []
 unfolding outcome
 nothing-found = refl
@@ -169,8 +143,7 @@ pub any-number : EndsWith
     loads 0 10 2 ∷
     atPair (host (load 0 4 3 4 6)) 0 [] 4 2 ∷
     grants 4 ∷
-    grants 4 ∷
-    [])
+    grants 4 ∷ [])
     (6 ∷ 5 ∷ 5 ∷ [])
 unfolding outcome
 any-number = refl
@@ -183,8 +156,7 @@ pub loaded-in-a-function : EndsWith
     grants 7 ∷
     picks guestCall 1 (0 ∷ 0 ∷ 1 ∷ []) ∷  -- 6 with 7: frame 2
     atPair (host (load 6 5 4 10 7)) 2 [] 10 0 ∷
-    does (host (return 6 5)) 2 ∷
-    [])
+    does (host (return 6 5)) 2 ∷ [])
     (6 ∷ 7 ∷ 5 ∷ [])
 unfolding outcome
 loaded-in-a-function = refl
@@ -201,8 +173,7 @@ pub stored-beside : EndsWith
     loads 0 4 0 ∷
     loads 0 10 0 ∷
     loads 0 4 1 ∷
-    loads 0 11 0 ∷
-    [])
+    loads 0 11 0 ∷ [])
     (6 ∷ 5 ∷ 7 ∷ 7 ∷ 7 ∷ [])
 unfolding outcome
 stored-beside = refl
@@ -210,31 +181,21 @@ stored-beside = refl
 -- a load with the key of class 3: name 10 is of it, by a record that stands behind
 pub class-loaded : EndsWith
     (forbidden ++ (plain 6 ∷ variable 2 ∷ variable 3 ∷ held 3 6 ∷ property 6 10 5 ∷ load 0 2 3 131 6 ∷ grant 2 ∷ name 10 9 ∷ []))
-    (atPair (host (load 0 2 3 131 6)) 0 [] 10 0 ∷
-    grants 2 ∷
-    [])
+    (atPair (host (load 0 2 3 131 6)) 0 [] 10 0 ∷ grants 2 ∷ [])
     (5 ∷ [])
 unfolding outcome
 class-loaded = refl
 
 -- and a store
-pub class-stored : EndsWith
-    (journal ++ (plain 6 ∷ variable 3 ∷ held 3 6 ∷ store 0 3 131 2 ∷ grant 3 ∷ name 10 9 ∷ []))
-    (atPair (host (store 0 3 131 2)) 0 [] 10 0 ∷
-    grants 3 ∷
-    loads 0 10 0 ∷
-    [])
+pub class-stored : EndsWith (journal ++ (plain 6 ∷ variable 3 ∷ held 3 6 ∷ store 0 3 131 2 ∷ grant 3 ∷ name 10 9 ∷ []))
+    (atPair (host (store 0 3 131 2)) 0 [] 10 0 ∷ grants 3 ∷ loads 0 10 0 ∷ [])
     (6 ∷ 5 ∷ [])
 unfolding outcome
 class-stored = refl
 
 -- class 0 holds every name, here 31, which has no record
-pub every-name : EndsWith
-    (journal ++ (plain 6 ∷ variable 3 ∷ variable 4 ∷ held 3 6 ∷ store 0 3 128 2 ∷ load 0 4 3 128 6 ∷ grant 4 ∷ []))
-    (atPair (host (store 0 3 128 2)) 0 [] 31 0 ∷
-    atPair (host (load 0 4 3 128 6)) 0 [] 31 0 ∷
-    grants 4 ∷
-    [])
+pub every-name : EndsWith (journal ++ (plain 6 ∷ variable 3 ∷ variable 4 ∷ held 3 6 ∷ store 0 3 128 2 ∷ load 0 4 3 128 6 ∷ grant 4 ∷ []))
+    (atPair (host (store 0 3 128 2)) 0 [] 31 0 ∷ atPair (host (load 0 4 3 128 6)) 0 [] 31 0 ∷ grants 4 ∷ [])
     (5 ∷ [])
 unfolding outcome
 every-name = refl

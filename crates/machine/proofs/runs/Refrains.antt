@@ -15,8 +15,7 @@ pub not-read-in-the-caller : EndsWith
     does (host (copy 6 4 2)) 2 ∷
     does (host (call 6 5 7 0 [])) 2 ∷  -- 7: frame 3
     does (host (return 7 4)) 3 ∷
-    does (host (return 6 5)) 2 ∷
-    [])
+    does (host (return 6 5)) 2 ∷ [])
     (6 ∷ [])
 unfolding outcome
 not-read-in-the-caller = refl
@@ -29,19 +28,14 @@ pub not-written-in-the-caller : EndsWith
     does guestCall 1 ∷  -- 6: frame 2
     does (host (call 6 0 7 0 [])) 2 ∷  -- 7: frame 3
     does (host (copy 7 4 2)) 3 ∷
-    does (host (return 6 4)) 2 ∷
-    [])
+    does (host (return 6 4)) 2 ∷ [])
     (6 ∷ [])
 unfolding outcome
 not-written-in-the-caller = refl
 
 -- variable 0 is empty for ever
-pub variable-zero : EndsWith
-    (journal ++ (variable 3 ∷ copy 0 0 2 ∷ copy 0 3 0 ∷ grant 3 ∷ []))
-    (does (host (copy 0 0 2)) 0 ∷
-    does (host (copy 0 3 0)) 0 ∷
-    grants 3 ∷
-    [])
+pub variable-zero : EndsWith (journal ++ (variable 3 ∷ copy 0 0 2 ∷ copy 0 3 0 ∷ grant 3 ∷ []))
+    (does (host (copy 0 0 2)) 0 ∷ does (host (copy 0 3 0)) 0 ∷ grants 3 ∷ [])
     []
 unfolding outcome
 variable-zero = refl
@@ -50,9 +44,7 @@ variable-zero = refl
 pub own-pair : EndsWith
     (forbidden ++ (variable 3 ∷ variable 4 ∷ functionLabel 6 ∷ takes 6 0 (4 ∷ []) ∷ named 2 4 ∷ held 3 5 ∷ property 1 4 6 ∷
     grant 4 ∷ call 0 0 2 0 (3 ∷ []) ∷ []))
-    (does (host (call 0 0 2 0 (3 ∷ []))) 0 ∷
-    grants 4 ∷
-    [])
+    (does (host (call 0 0 2 0 (3 ∷ []))) 0 ∷ grants 4 ∷ [])
     []
 unfolding outcome
 own-pair = refl
@@ -60,23 +52,19 @@ own-pair = refl
 -- ---- scopes and frames
 
 -- a statement is carried out in a frame of its scope only: a return of 6 not in one of 7, a grant in the top frame only
-pub other-scope : EndsWith
-    (journal ++ (variable 3 ∷ function 6 ∷ function 7 ∷ held 3 7 ∷ grant 3 ∷ grant 2 ∷ return 6 2 ∷ []))
+pub other-scope : EndsWith (journal ++ (variable 3 ∷ function 6 ∷ function 7 ∷ held 3 7 ∷ grant 3 ∷ grant 2 ∷ return 6 2 ∷ []))
     (grants 3 ∷
     does guestCall 1 ∷  -- 7: frame 2
     does (host (return 6 2)) 2 ∷
     does (host (grant 2)) 2 ∷
-    does (host (grant 2)) 1 ∷
-    [])
+    does (host (grant 2)) 1 ∷ [])
     (7 ∷ [])
 unfolding outcome
 other-scope = refl
 
 -- a frame that is not there carries out nothing, though the variable is a named one
-pub no-such-frame : EndsWith
-    (forbidden ++ (named 2 4 ∷ held 2 5 ∷ grant 2 ∷ []))
-    (does (host (grant 2)) 7 ∷
-    [])
+pub no-such-frame : EndsWith (forbidden ++ (named 2 4 ∷ held 2 5 ∷ grant 2 ∷ []))
+    (does (host (grant 2)) 7 ∷ [])
     []
 unfolding outcome
 no-such-frame = refl
@@ -90,8 +78,7 @@ pub other-name : EndsWith
     grants 4 ∷
     atPair (host (store 0 3 4 2)) 0 [] 11 0 ∷
     grants 3 ∷
-    loads 1 11 0 ∷  -- behind the primitive that was in variable 4
-    [])
+    loads 1 11 0 ∷ [])  -- behind the primitive that was in variable 4
     (6 ∷ [])
 unfolding outcome
 other-name = refl
@@ -106,8 +93,7 @@ pub other-class : EndsWith
     grants 4 ∷
     atPair (host (store 0 3 131 2)) 0 [] 12 0 ∷
     grants 3 ∷
-    loads 2 12 0 ∷
-    [])
+    loads 2 12 0 ∷ [])
     (6 ∷ [])
 unfolding outcome
 other-class = refl
@@ -117,32 +103,21 @@ other-class = refl
 -- the journal is stored in a built-in object that the guest has: nothing happens
 pub store-on-built-in : EndsWith
     (journal ++ (builtInPlain 6 ∷ variable 3 ∷ variable 4 ∷ held 3 6 ∷ held 4 6 ∷ grant 3 ∷ store 0 4 4 2 ∷ []))
-    (grants 3 ∷
-    atPair (host (store 0 4 4 2)) 0 [] 4 0 ∷
-    loads 0 4 0 ∷
-    [])
+    (grants 3 ∷ atPair (host (store 0 4 4 2)) 0 [] 4 0 ∷ loads 0 4 0 ∷ [])
     (6 ∷ [])
 unfolding outcome
 store-on-built-in = refl
 
 -- the same with the built-in object of label 1
-pub store-on-object-prototype : EndsWith
-    (journal ++ (variable 3 ∷ held 3 1 ∷ grant 3 ∷ store 0 3 4 2 ∷ []))
-    (grants 3 ∷
-    atPair (host (store 0 3 4 2)) 0 [] 4 0 ∷
-    loads 0 4 0 ∷
-    [])
+pub store-on-object-prototype : EndsWith (journal ++ (variable 3 ∷ held 3 1 ∷ grant 3 ∷ store 0 3 4 2 ∷ []))
+    (grants 3 ∷ atPair (host (store 0 3 4 2)) 0 [] 4 0 ∷ loads 0 4 0 ∷ [])
     (1 ∷ [])
 unfolding outcome
 store-on-object-prototype = refl
 
 -- a store to a primitive does nothing
-pub store-on-primitive : EndsWith
-    (journal ++ (plain 6 ∷ variable 3 ∷ held 3 6 ∷ grant 3 ∷ store 0 0 4 2 ∷ []))
-    (grants 3 ∷
-    atPair (host (store 0 0 4 2)) 0 [] 4 0 ∷
-    loads 0 4 0 ∷
-    [])
+pub store-on-primitive : EndsWith (journal ++ (plain 6 ∷ variable 3 ∷ held 3 6 ∷ grant 3 ∷ store 0 0 4 2 ∷ []))
+    (grants 3 ∷ atPair (host (store 0 0 4 2)) 0 [] 4 0 ∷ loads 0 4 0 ∷ [])
     (6 ∷ [])
 unfolding outcome
 store-on-primitive = refl
@@ -150,10 +125,8 @@ store-on-primitive = refl
 -- ---- calls
 
 -- what is no function is not called: else the journal, as its argument, would come to the variable that a label has before it has a function
-pub call-on-plain : EndsWith
-    (journal ++ (plain 6 ∷ variable 3 ∷ held 3 6 ∷ call 0 0 3 2 (2 ∷ []) ∷ []))
-    (does (host (call 0 0 3 2 (2 ∷ []))) 0 ∷
-    [])
+pub call-on-plain : EndsWith (journal ++ (plain 6 ∷ variable 3 ∷ held 3 6 ∷ call 0 0 3 2 (2 ∷ []) ∷ []))
+    (does (host (call 0 0 3 2 (2 ∷ []))) 0 ∷ [])
     []
 unfolding outcome
 call-on-plain = refl
@@ -161,11 +134,7 @@ call-on-plain = refl
 -- `new` on what is no function does nothing: no journal is made
 pub new-on-no-function : EndsWith
     (forbidden ++ (plain 6 ∷ variable 2 ∷ variable 3 ∷ variable 4 ∷ held 3 6 ∷ new 0 2 3 4 5 [] ∷ new 0 2 0 4 5 [] ∷ grant 2 ∷ grant 4 ∷ []))
-    (does (host (new 0 2 3 4 5 [])) 0 ∷
-    does (host (new 0 2 0 4 5 [])) 0 ∷
-    grants 2 ∷
-    grants 4 ∷
-    [])
+    (does (host (new 0 2 3 4 5 [])) 0 ∷ does (host (new 0 2 0 4 5 [])) 0 ∷ grants 2 ∷ grants 4 ∷ [])
     []
 unfolding outcome
 new-on-no-function = refl
@@ -173,10 +142,7 @@ new-on-no-function = refl
 -- prim does not call what is under another name than toString and valueOf
 pub prim-by-other-name : EndsWith
     (journal ++ (variable 4 ∷ functionLabel 7 ∷ takes 7 4 [] ∷ property 5 3 7 ∷ property 5 0 7 ∷ prim 0 2 ∷ grant 4 ∷ []))
-    (atPair (host (prim 0 2)) 0 [] 3 0 ∷
-    atPair (host (prim 0 2)) 0 [] 0 0 ∷
-    grants 4 ∷
-    [])
+    (atPair (host (prim 0 2)) 0 [] 3 0 ∷ atPair (host (prim 0 2)) 0 [] 0 0 ∷ grants 4 ∷ [])
     []
 unfolding outcome
 prim-by-other-name = refl
@@ -187,8 +153,7 @@ pub prim-on-primitive : EndsWith
     (atPair (host (prim 0 0)) 0 [] 1 0 ∷
     grants 3 ∷
     does guestCall 1 ∷  -- 6: frame 2
-    does (host (return 6 2)) 2 ∷
-    [])
+    does (host (return 6 2)) 2 ∷ [])
     (6 ∷ 5 ∷ [])
 unfolding outcome
 prim-on-primitive = refl
@@ -198,8 +163,7 @@ pub prim-drops-the-result : EndsWith
     (journal ++ (plain 8 ∷ function 7 ∷ variable 4 ∷ held 4 8 ∷ property 8 1 7 ∷ prim 0 4 ∷ return 7 2 ∷ grant 4 ∷ []))
     (atPair (host (prim 0 4)) 0 [] 1 0 ∷  -- 7: frame 2
     does (host (return 7 2)) 2 ∷
-    grants 4 ∷
-    [])
+    grants 4 ∷ [])
     (8 ∷ [])
 unfolding outcome
 prim-drops-the-result = refl
@@ -214,22 +178,19 @@ pub own-throws : EndsWith
     does (host (call 0 0 3 0 [])) 0 ∷  -- 6: frame 2
     does (host (throw 6 2)) 2 ∷
     does (host (call 6 0 4 0 [])) 2 ∷  -- the guest: frame 3
-    does guestCatch 3 ∷
-    [])
+    does guestCatch 3 ∷ [])
     (3 ∷ [])
 unfolding outcome
 own-throws = refl
 
 -- the guest's first frame has no caller: what it throws and what it returns there reach no host statement
-pub guest-has-no-caller : EndsWith
-    (journal ++ (variable 4 ∷ catch 0 4 ∷ call 0 0 4 0 (2 ∷ []) ∷ []))
+pub guest-has-no-caller : EndsWith (journal ++ (variable 4 ∷ catch 0 4 ∷ call 0 0 4 0 (2 ∷ []) ∷ []))
     (does guestMakeFunction 1 ∷
     does guestThrow 1 ∷
     does guestReturn 1 ∷
     hands 1 0 ∷
     does (host (catch 0 4)) 0 ∷
-    does (host (call 0 0 4 0 (2 ∷ []))) 0 ∷
-    [])
+    does (host (call 0 0 4 0 (2 ∷ []))) 0 ∷ [])
     (3 ∷ [])
 unfolding outcome
 guest-has-no-caller = refl

@@ -11,8 +11,7 @@ empty-run = refl
 
 -- turns without sense are steps too, which do nothing: a statement and a frame that are not there, a statement in a frame of another scope, a
 -- thrown value that is not there
-pub senseless-turns : EndsWith
-    (journal ++ (function 6 ∷ grant 2 ∷ return 6 2 ∷ []))
+pub senseless-turns : EndsWith (journal ++ (function 6 ∷ grant 2 ∷ return 6 2 ∷ []))
     (does (host []) 0 ∷
     does (host (grant 2)) 7 ∷
     does (host (return 6 2)) 1 ∷
@@ -20,8 +19,7 @@ pub senseless-turns : EndsWith
     hands 0 0 ∷
     hands 7 0 ∷
     does guestCatch 1 ∷
-    grants 2 ∷
-    [])
+    grants 2 ∷ [])
     (5 ∷ [])
 unfolding outcome
 senseless-turns = refl
@@ -40,8 +38,7 @@ pub first-objects : EndsWith
     grant 10 ∷ grant 11 ∷ grant 12 ∷ grant 14 ∷ []))
     (grants 10 ∷ grants 11 ∷ grants 12 ∷ grants 14 ∷
     loads 0 20 0 ∷ loads 1 21 0 ∷ loads 2 22 0 ∷ loads 3 24 0 ∷
-    loads 0 21 0 ∷ loads 2 21 0 ∷ loads 3 21 0 ∷
-    [])
+    loads 0 21 0 ∷ loads 2 21 0 ∷ loads 3 21 0 ∷ [])
     (0 ∷ 1 ∷ 2 ∷ 4 ∷ 6 ∷ 5 ∷ 7 ∷ 8 ∷ 5 ∷ 5 ∷ 5 ∷ [])
 unfolding outcome
 first-objects = refl
@@ -55,8 +52,7 @@ pub prototypes-at-start : EndsWith
     loads 0 21 0 ∷ loads 0 22 0 ∷ loads 0 24 0 ∷
     loads 1 22 0 ∷ loads 1 24 0 ∷
     loads 2 22 0 ∷ loads 2 24 0 ∷
-    loads 3 22 0 ∷ loads 3 24 0 ∷
-    [])
+    loads 3 22 0 ∷ loads 3 24 0 ∷ [])
     (6 ∷ 7 ∷ 8 ∷ 1 ∷ 5 ∷ 9 ∷ 10 ∷ [])
 unfolding outcome
 prototypes-at-start = refl
@@ -72,8 +68,7 @@ pub one-object-for-a-label : EndsWith
     loads 1 12 0 ∷
     loads 0 10 0 ∷
     loads 3 12 0 ∷
-    loads 3 11 0 ∷
-    [])
+    loads 3 11 0 ∷ [])
     (7 ∷ 6 ∷ 5 ∷ 6 ∷ 5 ∷ 7 ∷ [])
 unfolding outcome
 one-object-for-a-label = refl
@@ -81,11 +76,8 @@ one-object-for-a-label = refl
 -- ---- kinds 7 and 8
 
 -- two kind 7 records for one label and name: the second is under the pair (4, 1)
-pub second-pair : EndsWith
-    (forbidden ++ (plain 6 ∷ plain 7 ∷ variable 2 ∷ held 2 7 ∷ property 7 4 6 ∷ property 7 4 5 ∷ grant 2 ∷ []))
-    (grants 2 ∷
-    loads 0 4 1 ∷
-    [])
+pub second-pair : EndsWith (forbidden ++ (plain 6 ∷ plain 7 ∷ variable 2 ∷ held 2 7 ∷ property 7 4 6 ∷ property 7 4 5 ∷ grant 2 ∷ []))
+    (grants 2 ∷ loads 0 4 1 ∷ [])
     (7 ∷ 5 ∷ [])
 unfolding outcome
 second-pair = refl
@@ -94,41 +86,28 @@ second-pair = refl
 pub counted-apart : EndsWith
     (forbidden ++ (plain 6 ∷ plain 7 ∷ plain 8 ∷ variable 2 ∷ variable 3 ∷ property 7 4 6 ∷ property 7 10 6 ∷ property 6 4 8 ∷ held 2 7 ∷
     property 7 4 7 ∷ held 3 6 ∷ property 7 4 5 ∷ grant 2 ∷ grant 3 ∷ []))
-    (grants 2 ∷
-    grants 3 ∷
-    loads 0 4 0 ∷
-    loads 0 4 1 ∷
-    loads 0 4 2 ∷
-    loads 0 10 0 ∷
-    loads 1 4 0 ∷
-    [])
+    (grants 2 ∷ grants 3 ∷ loads 0 4 0 ∷ loads 0 4 1 ∷ loads 0 4 2 ∷ loads 0 10 0 ∷ loads 1 4 0 ∷ [])
     (7 ∷ 6 ∷ 6 ∷ 7 ∷ 5 ∷ 6 ∷ 8 ∷ [])
 unfolding outcome
 counted-apart = refl
 
 -- a kind 7 and a kind 8 record fill one pair: the last stands, here the kind 8 one
-pub held-last : EndsWith
-    (forbidden ++ (plain 6 ∷ named 2 4 ∷ property 0 4 6 ∷ held 2 5 ∷ grant 2 ∷ []))
-    (grants 2 ∷
-    [])
+pub held-last : EndsWith (forbidden ++ (plain 6 ∷ named 2 4 ∷ property 0 4 6 ∷ held 2 5 ∷ grant 2 ∷ []))
+    (grants 2 ∷ [])
     (5 ∷ [])
 unfolding outcome
 held-last = refl
 
 -- and here the kind 7 one
-pub property-last : EndsWith
-    (forbidden ++ (plain 6 ∷ named 2 4 ∷ held 2 5 ∷ property 0 4 6 ∷ grant 2 ∷ []))
-    (grants 2 ∷
-    [])
+pub property-last : EndsWith (forbidden ++ (plain 6 ∷ named 2 4 ∷ held 2 5 ∷ property 0 4 6 ∷ grant 2 ∷ []))
+    (grants 2 ∷ [])
     (6 ∷ [])
 unfolding outcome
 property-last = refl
 
 -- two kind 8 records fill one variable
-pub second-held : EndsWith
-    (forbidden ++ (plain 6 ∷ variable 2 ∷ held 2 6 ∷ held 2 5 ∷ grant 2 ∷ []))
-    (grants 2 ∷
-    [])
+pub second-held : EndsWith (forbidden ++ (plain 6 ∷ variable 2 ∷ held 2 6 ∷ held 2 5 ∷ grant 2 ∷ []))
+    (grants 2 ∷ [])
     (5 ∷ [])
 unfolding outcome
 second-held = refl

@@ -5,14 +5,12 @@ use Rattle.program.proofs.File.{plain, function, variable, local, grant, held, 
 use Rattle.machine.proofs.runs.Run.{guestMakeFunction, guestCall, guestThrow, guestCatch, host, picks, does, catches, hands, grants, lends, outcome, EndsWith}
 
 -- 6 throws the journal, which is handed on and caught by the guest
-pub caught : EndsWith
-    (journal ++ (variable 3 ∷ function 6 ∷ held 3 6 ∷ grant 3 ∷ throw 6 2 ∷ []))
+pub caught : EndsWith (journal ++ (variable 3 ∷ function 6 ∷ held 3 6 ∷ grant 3 ∷ throw 6 2 ∷ []))
     (grants 3 ∷
     does guestCall 1 ∷  -- 6: frame 2
     does (host (throw 6 2)) 2 ∷
     hands 2 0 ∷
-    does guestCatch 1 ∷
-    [])
+    does guestCatch 1 ∷ [])
     (6 ∷ 5 ∷ [])
 unfolding outcome
 caught = refl
@@ -26,8 +24,7 @@ pub caught-two-frames-off : EndsWith
     does (host (throw 7 2)) 3 ∷
     hands 3 0 ∷
     hands 2 0 ∷
-    does guestCatch 1 ∷
-    [])
+    does guestCatch 1 ∷ [])
     (6 ∷ 5 ∷ [])
 unfolding outcome
 caught-two-frames-off = refl
@@ -42,8 +39,7 @@ pub caught-in-the-middle : EndsWith
     does (host (throw 7 2)) 3 ∷
     hands 3 0 ∷
     does (host (catch 6 5)) 2 ∷
-    does (host (return 6 5)) 2 ∷
-    [])
+    does (host (return 6 5)) 2 ∷ [])
     (6 ∷ 5 ∷ [])
 unfolding outcome
 caught-in-the-middle = refl
@@ -59,19 +55,14 @@ pub caught-where-thrown : EndsWith
     catches (host (catch 6 5)) 2 1 ∷
     does (host (return 6 5)) 2 ∷
     catches (host (catch 6 5)) 2 0 ∷
-    does (host (return 6 5)) 2 ∷
-    [])
+    does (host (return 6 5)) 2 ∷ [])
     (6 ∷ 5 ∷ 7 ∷ [])
 unfolding outcome
 caught-where-thrown = refl
 
 -- at the top level
-pub caught-at-the-top : EndsWith
-    (journal ++ (variable 3 ∷ throw 0 2 ∷ catch 0 3 ∷ grant 3 ∷ []))
-    (does (host (throw 0 2)) 0 ∷
-    does (host (catch 0 3)) 0 ∷
-    grants 3 ∷
-    [])
+pub caught-at-the-top : EndsWith (journal ++ (variable 3 ∷ throw 0 2 ∷ catch 0 3 ∷ grant 3 ∷ []))
+    (does (host (throw 0 2)) 0 ∷ does (host (catch 0 3)) 0 ∷ grants 3 ∷ [])
     (5 ∷ [])
 unfolding outcome
 caught-at-the-top = refl
@@ -86,8 +77,7 @@ pub second-handed : EndsWith
     hands 2 1 ∷
     hands 2 0 ∷
     catches guestCatch 1 0 ∷
-    catches guestCatch 1 1 ∷
-    [])
+    catches guestCatch 1 1 ∷ [])
     (6 ∷ 5 ∷ 7 ∷ [])
 unfolding outcome
 second-handed = refl
@@ -102,32 +92,26 @@ pub caught-again : EndsWith
     does guestCatch 1 ∷
     does guestCatch 1 ∷
     does (host (catch 6 5)) 2 ∷
-    does (host (return 6 5)) 2 ∷
-    [])
+    does (host (return 6 5)) 2 ∷ [])
     (6 ∷ 5 ∷ 5 ∷ 5 ∷ [])
 unfolding outcome
 caught-again = refl
 
 -- where nothing was thrown, a catch leaves y as it is
-pub nothing-to-catch : EndsWith
-    (journal ++ (catch 0 2 ∷ grant 2 ∷ []))
-    (does (host (catch 0 2)) 0 ∷
-    grants 2 ∷
-    [])
+pub nothing-to-catch : EndsWith (journal ++ (catch 0 2 ∷ grant 2 ∷ []))
+    (does (host (catch 0 2)) 0 ∷ grants 2 ∷ [])
     (5 ∷ [])
 unfolding outcome
 nothing-to-catch = refl
 
 -- and nothing is handed on: what is thrown afterwards is the first that the guest's frame gets
-pub nothing-to-hand : EndsWith
-    (journal ++ (variable 3 ∷ function 6 ∷ held 3 6 ∷ grant 3 ∷ throw 6 2 ∷ []))
+pub nothing-to-hand : EndsWith (journal ++ (variable 3 ∷ function 6 ∷ held 3 6 ∷ grant 3 ∷ throw 6 2 ∷ []))
     (grants 3 ∷
     does guestCall 1 ∷  -- 6: frame 2
     hands 2 0 ∷
     does (host (throw 6 2)) 2 ∷
     hands 2 0 ∷
-    does guestCatch 1 ∷
-    [])
+    does guestCatch 1 ∷ [])
     (6 ∷ 5 ∷ [])
 unfolding outcome
 nothing-to-hand = refl
@@ -144,8 +128,7 @@ pub guest-throws : EndsWith
     picks guestThrow 2 (1 ∷ []) ∷
     hands 2 0 ∷
     does (host (catch 0 4)) 0 ∷
-    does (host (call 0 0 4 0 (2 ∷ []))) 0 ∷
-    [])
+    does (host (call 0 0 4 0 (2 ∷ []))) 0 ∷ [])
     (6 ∷ 3 ∷ 5 ∷ [])
 unfolding outcome
 guest-throws = refl

@@ -20,11 +20,4 @@ returns c =
     (said .guest .ensures p (known .lays) (known .formals-of) (known .returning))
 
 pub lines-spec : {M : Type 1} → statement M
-lines-spec =
-    tie.close
-    (tie.spec
-    (λ c κs. search needs)
-    guest-line-requires
-    (λ c κs. search needs)
-    (λ c. search needs)
-    returns)
+lines-spec = tie.close (tie.spec (λ c κs. search needs) guest-line-requires (λ c κs. search needs) (λ c. search needs) returns)

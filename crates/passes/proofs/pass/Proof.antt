@@ -18,10 +18,4 @@ returns c =
     (records .host-rules .ensures _ (known .lays) (known .formals-of) (known .returning))
 
 pub pass-spec : {M : Type 1} → statement M
-pass-spec =
-    tie.close
-    (tie.spec
-    (λ c κs. search needs)
-    host-rules-requires
-    (λ c. search needs)
-    returns)
+pass-spec = tie.close (tie.spec (λ c κs. search needs) host-rules-requires (λ c. search needs) returns)

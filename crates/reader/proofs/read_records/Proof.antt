@@ -5,7 +5,7 @@ use Prim.Native.Nat.{ℕ, _≤_, _<_, _-_}
 use native.Mathlib.Omega.{arith}
 use mathlib.Core.List.{List, []}
 use mathlib.Core.Bool.{Bool}
-use lib.ListN.{length, getD, take, drop}
+use lib.ListN.{length, getD, drop}
 use Rattle.rows.specs.Edition.{labels}
 use Rattle.rows.proofs.Edition.{labels-small}
 use Rattle.layout.specs.Layout.{name, fieldsOf, classOf}
@@ -127,62 +127,8 @@ made c =
     (u .0, ap (sheetOf wide) (w .1) ∙ u .1))
     (c .if6 .came)
 
-lengths-requires : tie.Need-lengths-requires Inv-fields μ-fields Inv-records μ-records
-lengths-requires c κs = search needs
-
-classes-requires : tie.Need-classes-requires Inv-fields μ-fields Inv-records μ-records
-classes-requires c κs = search needs
-
-fresh-requires : tie.Need-fresh-requires Inv-fields μ-fields Inv-records μ-records
-fresh-requires c κs = search needs
-
-records-holds : tie.Need-records-holds Inv-fields μ-fields Inv-records μ-records
-records-holds c = (refl, search needs, rw (c .fresh .ensures) (on-start _ _))
-
-shared-slice-read-kind : tie.Need-shared-slice-read-kind Inv-fields μ-fields Inv-records μ-records
-shared-slice-read-kind c = search needs
-
 cast-k : tie.Need-cast-k Inv-fields μ-fields Inv-records μ-records
 cast-k c = omega (arith, c .shared-slice-known2 .given (c .before .before .records .at))
-
-array-read-n : tie.Need-array-read-n Inv-fields μ-fields Inv-records μ-records
-array-read-n c = search needs
-
-cast-n : tie.Need-cast-n Inv-fields μ-fields Inv-records μ-records
-cast-n c = search needs
-
-sub-if4 : tie.Need-sub-if4 Inv-fields μ-fields Inv-records μ-records
-sub-if4 c = search needs
-
-sub-if4-2 : tie.Need-sub-if4-2 Inv-fields μ-fields Inv-records μ-records
-sub-if4-2 c = search needs
-
-add-body : tie.Need-add-body Inv-fields μ-fields Inv-records μ-records
-add-body c = search needs
-
-add-body-2 : tie.Need-add-body-2 Inv-fields μ-fields Inv-records μ-records
-add-body-2 c = search needs
-
-add-body-3 : tie.Need-add-body-3 Inv-fields μ-fields Inv-records μ-records
-add-body-3 c = search needs
-
-sub-body : tie.Need-sub-body Inv-fields μ-fields Inv-records μ-records
-sub-body c = search needs
-
-part-body-start : tie.Need-part-body-start Inv-fields μ-fields Inv-records μ-records
-part-body-start c = search needs
-
-part-body-end : tie.Need-part-body-end Inv-fields μ-fields Inv-records μ-records
-part-body-end c = search needs
-
-fields-holds : tie.Need-fields-holds Inv-fields μ-fields Inv-records μ-records
-fields-holds c = (refl, search needs, refl)
-
-mul-row : tie.Need-mul-row Inv-fields μ-fields Inv-records μ-records
-mul-row c = search needs
-
-array-copy-out-row : tie.Need-array-copy-out-row Inv-fields μ-fields Inv-records μ-records
-array-copy-out-row c = search needs
 
 array-read-field-refusal :
     tie.Need-array-read-field-refusal Inv-fields μ-fields Inv-records μ-records
@@ -203,29 +149,11 @@ field-refusal-requires c κs =
     let long : length (sheet .types) ≡ 256 = search needs in
     omega (arith, labels-small (wide-at b))
 
-add-j : tie.Need-add-j Inv-fields μ-fields Inv-records μ-records
-add-j c = search needs
-
-fields-less : tie.Need-fields-less Inv-fields μ-fields Inv-records μ-records
-fields-less c = search needs
-
 fields-again : tie.Need-fields-again Inv-fields μ-fields Inv-records μ-records
 fields-again c =
     let f = c .before .before .before .before .before .before .before .before .before in
     let b = f .before in
     (search needs, search needs, sym (fields-on _ _ _ _ _ (inside-fields (c .before)) (inside-body (c .before)) (sym (field-is (c .before)) ∙ c .if5 .left)) ∙ f .fields .inv .2)
-
-take-requires : tie.Need-take-requires Inv-fields μ-fields Inv-records μ-records
-take-requires c κs = here-fits (here (c .before .before .before)) (fields-all (c .before))
-
-add-at : tie.Need-add-at Inv-fields μ-fields Inv-records μ-records
-add-at c = search needs
-
-add-at-2 : tie.Need-add-at-2 Inv-fields μ-fields Inv-records μ-records
-add-at-2 c = search needs
-
-records-less : tie.Need-records-less Inv-fields μ-fields Inv-records μ-records
-records-less c = search needs
 
 records-again : tie.Need-records-again Inv-fields μ-fields Inv-records μ-records
 records-again c =
@@ -277,45 +205,10 @@ returns-6 c =
 
 pub read-records-spec : {M : Type 1} → statement M
 read-records-spec =
-    tie.close
-    (tie.spec
-    Inv-fields
-    μ-fields
-    Inv-records
-    μ-records
-    lengths-requires
-    classes-requires
-    fresh-requires
-    records-holds
-    shared-slice-read-kind
-    cast-k
-    array-read-n
-    cast-n
-    sub-if4
-    sub-if4-2
-    mul-row
-    array-copy-out-row
-    add-body
-    add-body-2
-    add-body-3
-    sub-body
-    part-body-start
-    part-body-end
-    fields-holds
-    array-read-field-refusal
-    shared-slice-read-field-refusal
-    field-refusal-requires
-    add-j
-    fields-less
-    fields-again
-    take-requires
-    add-at
-    add-at-2
-    records-less
-    records-again
-    returns
-    returns-2
-    returns-3
-    returns-4
-    returns-5
-    returns-6)
+    tie.close (tie.spec Inv-fields μ-fields Inv-records μ-records (λ c κs. search needs) (λ c κs. search needs)
+    (λ c κs. search needs) (λ c. (refl, search needs, rw (c .fresh .ensures) (on-start _ _))) (λ c. search needs) cast-k
+    (λ c. search needs) (λ c. search needs) (λ c. search needs) (λ c. search needs) (λ c. search needs) (λ c. search needs)
+    (λ c. search needs) (λ c. search needs) (λ c. search needs) (λ c. search needs) (λ c. search needs) (λ c. search needs)
+    (λ c. (refl, search needs, refl)) array-read-field-refusal shared-slice-read-field-refusal field-refusal-requires
+    (λ c. search needs) (λ c. search needs) fields-again (λ c κs. search (needs, here-fits, here, fields-all)) (λ c. search needs)
+    (λ c. search needs) (λ c. search needs) records-again returns returns-2 returns-3 returns-4 returns-5 returns-6)

@@ -24,13 +24,5 @@ returns c =
 
 pub statement-at-spec : {M : Type 1} → statement M
 statement-at-spec =
-    tie.close
-    (tie.spec
-    (λ c κs. search needs)
-    (λ c. search needs)
-    (λ c. search needs)
-    (λ c. search needs)
-    (λ c. search needs)
-    part-statement-of-end
-    statement-of-requires
-    returns)
+    tie.close (tie.spec (λ c κs. search needs) (λ c. search needs) (λ c. search needs) (λ c. search needs) (λ c. search needs)
+    part-statement-of-end statement-of-requires returns)

@@ -20,86 +20,27 @@ spoken : (c : tie.After-shared-slice-known) {n : ℕ} {r : Statement} (f : List 
     → Says (labels (c .before .args .wide)) (c .before .args .kind) (c .before .args .body .now) r
 spoken c f e q law = said _ _ e q (c .before .pre) (law (labels (c .before .args .wide)) (c .before .args .body .now))
 
-returns : tie.Need-returns
-returns c = spoken (c .before .before) namedIn (c .before .match .keys1) (c .named .ensures) named-says
-
-returns-2 : tie.Need-returns-2
-returns-2 c = spoken (c .before .before) grantIn (c .before .match .keys2) (c .grant .ensures) grant-says
-
-returns-3 : tie.Need-returns-3
-returns-3 c = spoken (c .before .before) propertyIn (c .before .match .keys3) (c .property .ensures) property-says
-
-returns-4 : tie.Need-returns-4
-returns-4 c = spoken (c .before .before) heldIn (c .before .match .keys4) (c .held .ensures) held-says
-
-returns-5 : tie.Need-returns-5
-returns-5 c = spoken (c .before .before) copyIn (c .before .match .keys5) (c .copy .ensures) copy-says
-
-returns-6 : tie.Need-returns-6
-returns-6 c = spoken (c .before .before) loadIn (c .before .match .keys6) (c .load .ensures) load-says
-
-returns-7 : tie.Need-returns-7
-returns-7 c = spoken (c .before .before) storeIn (c .before .match .keys7) (c .store .ensures) store-says
-
-returns-8 : tie.Need-returns-8
-returns-8 c = spoken (c .before .before) makeIn (c .before .match .keys8) (c .make .ensures) make-says
-
-returns-9 : tie.Need-returns-9
-returns-9 c = spoken (c .before .before) makeFunctionIn (c .before .match .keys9) (c .make-function .ensures) make-function-says
-
-returns-10 : tie.Need-returns-10
-returns-10 c = spoken (c .before .before) callIn (c .before .match .keys10) (c .call .ensures) call-says
-
-returns-11 : tie.Need-returns-11
-returns-11 c = spoken (c .before .before) newIn (c .before .match .keys11) (c .new .ensures) new-says
-
-returns-12 : tie.Need-returns-12
-returns-12 c = spoken (c .before) (λ b. Return) (c .match .keys12) refl return-says
-
-returns-13 : tie.Need-returns-13
-returns-13 c = spoken (c .before .before) throwIn (c .before .match .keys13) (c .throw .ensures) throw-says
-
-returns-14 : tie.Need-returns-14
-returns-14 c = spoken (c .before .before) catchIn (c .before .match .keys14) (c .catch .ensures) catch-says
-
-returns-15 : tie.Need-returns-15
-returns-15 c = spoken (c .before .before) convertIn (c .before .match .keys15) (c .convert .ensures) convert-says
-
 returns-16 : tie.Need-returns-16
 unfolding statementsOf
 returns-16 c = (λ p. search (needs, ne-eqb), tt)
 
 pub statement-of-spec : {M : Type 1} → statement M
 statement-of-spec =
-    tie.close
-    (tie.spec
-    (λ c κs. search needs)
-    (λ c κs. search needs)
-    (λ c κs. search needs)
-    (λ c κs. search needs)
-    (λ c κs. search needs)
-    (λ c κs. search needs)
-    (λ c κs. search needs)
-    (λ c κs. search needs)
-    (λ c κs. search needs)
-    (λ c κs. search needs)
-    (λ c κs. search needs)
-    (λ c κs. search needs)
-    (λ c κs. search needs)
-    (λ c κs. search needs)
-    returns
-    returns-2
-    returns-3
-    returns-4
-    returns-5
-    returns-6
-    returns-7
-    returns-8
-    returns-9
-    returns-10
-    returns-11
-    returns-12
-    returns-13
-    returns-14
-    returns-15
-    returns-16)
+    tie.close (tie.spec (λ c κs. search needs) (λ c κs. search needs) (λ c κs. search needs) (λ c κs. search needs)
+    (λ c κs. search needs) (λ c κs. search needs) (λ c κs. search needs) (λ c κs. search needs) (λ c κs. search needs)
+    (λ c κs. search needs) (λ c κs. search needs) (λ c κs. search needs) (λ c κs. search needs) (λ c κs. search needs)
+    (λ c. spoken (c .before .before) namedIn (c .before .match .keys1) (c .named .ensures) named-says)
+    (λ c. spoken (c .before .before) grantIn (c .before .match .keys2) (c .grant .ensures) grant-says)
+    (λ c. spoken (c .before .before) propertyIn (c .before .match .keys3) (c .property .ensures) property-says)
+    (λ c. spoken (c .before .before) heldIn (c .before .match .keys4) (c .held .ensures) held-says)
+    (λ c. spoken (c .before .before) copyIn (c .before .match .keys5) (c .copy .ensures) copy-says)
+    (λ c. spoken (c .before .before) loadIn (c .before .match .keys6) (c .load .ensures) load-says)
+    (λ c. spoken (c .before .before) storeIn (c .before .match .keys7) (c .store .ensures) store-says)
+    (λ c. spoken (c .before .before) makeIn (c .before .match .keys8) (c .make .ensures) make-says)
+    (λ c. spoken (c .before .before) makeFunctionIn (c .before .match .keys9) (c .make-function .ensures) make-function-says)
+    (λ c. spoken (c .before .before) callIn (c .before .match .keys10) (c .call .ensures) call-says)
+    (λ c. spoken (c .before .before) newIn (c .before .match .keys11) (c .new .ensures) new-says)
+    (λ c. spoken (c .before) (λ b. Return) (c .match .keys12) refl return-says)
+    (λ c. spoken (c .before .before) throwIn (c .before .match .keys13) (c .throw .ensures) throw-says)
+    (λ c. spoken (c .before .before) catchIn (c .before .match .keys14) (c .catch .ensures) catch-says)
+    (λ c. spoken (c .before .before) convertIn (c .before .match .keys15) (c .convert .ensures) convert-says) returns-16)

@@ -14,27 +14,6 @@ Inv-loop formals₀ l seven at j₀ formals j = (j ≤ 7) × (formals ≡ paste 
 abbrev μ-loop : tie.MeasureT-loop
 μ-loop formals₀ l seven at j₀ formals j = 7 - j
 
-mul-at : tie.Need-mul-at Inv-loop μ-loop
-mul-at c = search needs
-
-loop-holds : tie.Need-loop-holds Inv-loop μ-loop
-loop-holds c = (search needs, paste-zero (c .args .formals .now) (7 * c .args .l) (c .args .seven .now))
-
-shared-slice-read-formals : tie.Need-shared-slice-read-formals Inv-loop μ-loop
-shared-slice-read-formals c = search needs
-
-add-formals : tie.Need-add-formals Inv-loop μ-loop
-add-formals c = search needs
-
-element-write-formals : tie.Need-element-write-formals Inv-loop μ-loop
-element-write-formals c = search needs
-
-add-j : tie.Need-add-j Inv-loop μ-loop
-add-j c = search needs
-
-loop-less : tie.Need-loop-less Inv-loop μ-loop
-loop-less c = search needs
-
 loop-again : tie.Need-loop-again Inv-loop μ-loop
 loop-again c =
     let a = c .before .before .before .args in
@@ -49,16 +28,5 @@ returns c =
 
 pub fill-spec : {M : Type 1} → statement M
 fill-spec =
-    tie.close
-    (tie.spec
-    Inv-loop
-    μ-loop
-    mul-at
-    loop-holds
-    shared-slice-read-formals
-    add-formals
-    element-write-formals
-    add-j
-    loop-less
-    loop-again
-    returns)
+    tie.close (tie.spec Inv-loop μ-loop (λ c. search needs) (λ c. search (needs, paste-zero)) (λ c. search needs)
+    (λ c. search needs) (λ c. search needs) (λ c. search needs) (λ c. search needs) loop-again returns)

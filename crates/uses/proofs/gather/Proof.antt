@@ -6,9 +6,6 @@ use Rattle.uses.proofs.Rows.{count-small}
 use Rattle.uses.proofs.gather.Statement.{statement}
 use Rattle.uses.proofs.gather.Tie as tie
 
-gather-word-requires : tie.Need-gather-word-requires
-gather-word-requires c κs = let start = c .before .before in (start .pre .0, word-fits (start .args .wide) (start .args .base) (start .pre .1))
-
 add-b : tie.Need-add-b
 add-b c =
     let then1 = c in
@@ -51,34 +48,8 @@ gather-word-requires-4 c κs =
     let h = words-fit (start .args .base) (then1 .if1 .taken) (start .pre .1) in
     (start .pre .0, omega arith)
 
-returns : tie.Need-returns
-returns c =
-    let third = c .before in
-    let second = third .before in
-    let first = second .before .before in
-    let a = c .gather-word4 .ensures in
-    added-whole (first .before .none .ensures)
-    (added-wide (first .before .before .before .args .base) (first .before .before .before .args .s) (second .before .if1 .taken)
-    (first .gather-word .ensures .1, second .gather-word2 .ensures .1, third .gather-word3 .ensures .1, a .1) (first .gather-word .ensures .0)
-    (second .gather-word2 .ensures .0) (third .gather-word3 .ensures .0) (a .0))
-
-returns-2 : tie.Need-returns-2
-returns-2 c =
-    let first = c .before in
-    added-whole (first .before .none .ensures)
-    (added-narrow (first .before .before .before .args .base) (first .before .before .before .args .s) (c .if1 .left) (first .gather-word .ensures .1) (first .gather-word .ensures .0))
-
 pub gather-spec : {M : Type 1} → statement M
 gather-spec =
-    tie.close
-    (tie.spec
-    (λ c κs. search needs)
-    gather-word-requires
-    add-b
-    gather-word-requires-2
-    add-c
-    gather-word-requires-3
-    add-d
-    gather-word-requires-4
-    returns
-    returns-2)
+    tie.close (tie.spec (λ c κs. search needs) (λ c κs. search (needs, word-fits)) add-b gather-word-requires-2 add-c
+    gather-word-requires-3 add-d gather-word-requires-4 (λ c. search (needs, added-whole, added-wide))
+    (λ c. search (needs, added-whole, added-narrow)))

@@ -19,12 +19,6 @@ Inv-loop t wide base w all₀ rest₀ all rest = Adding (rowFrom base) (tableOf 
 abbrev μ-loop : tie.MeasureT-loop
 μ-loop t wide base w all₀ rest₀ all rest = rest
 
-loop-holds : tie.Need-loop-holds Inv-loop μ-loop
-loop-holds c = adding-start
-
-next-requires : tie.Need-next-requires Inv-loop μ-loop
-next-requires c κs = search needs
-
 add-r : tie.Need-add-r Inv-loop μ-loop
 add-r c =
     let next = c .before in
@@ -36,12 +30,6 @@ row-requires c κs =
     let next = c .before in
     let start = next .before .before .before .before in
     row-read (start .args .wide) (start .args .base + next .next .result .label) (length (start .args .t .now)) (start .pre .0) (omega (arith, next .next .ensures .below, start .pre .1))
-
-union-requires : tie.Need-union-requires Inv-loop μ-loop
-union-requires c κs = search needs
-
-loop-less : tie.Need-loop-less Inv-loop μ-loop
-loop-less c = c .before .before .before .next .ensures .less
 
 loop-again : tie.Need-loop-again Inv-loop μ-loop
 loop-again c =
@@ -55,20 +43,7 @@ loop-again c =
     (turn-row (a .base) (row-is (a .wide) 0 (a .t .now) (a .base + next .next .result .label) inside (row .row .ensures)) (c .union .ensures))
     (loop .loop .inv)
 
-returns : tie.Need-returns Inv-loop μ-loop
-returns c = (adding-end (c .loop-test .left) (c .before .loop .inv), c .before .before .before .fits .w .fits)
-
 pub gather-word-spec : {M : Type 1} → statement M
 gather-word-spec =
-    tie.close
-    (tie.spec
-    Inv-loop
-    μ-loop
-    loop-holds
-    next-requires
-    add-r
-    row-requires
-    union-requires
-    loop-less
-    loop-again
-    returns)
+    tie.close (tie.spec Inv-loop μ-loop (λ c. adding-start) (λ c κs. search needs) add-r row-requires (λ c κs. search needs)
+    (λ c. c .before .before .before .next .ensures .less) loop-again (λ c. search (needs, adding-end)))

@@ -1,7 +1,5 @@
 -- What the functions of a set hand back: the loop takes them one by one. Assumes nothing.
 use borrow.Author.Needs.{needs}
-use mathlib.Core.List.{List}
-use Prim.Native.Nat.{ℕ}
 use Rattle.sets.specs.Value.{value}
 use Rattle.sets.proofs.Values.{some-left, none-left}
 use Rattle.uses.specs.Use.{tableOf}
@@ -18,48 +16,9 @@ Inv-loop t wide first second third fourth all₀ rest₀ all rest =
 abbrev μ-loop : tie.MeasureT-loop
 μ-loop t wide first second third fourth all₀ rest₀ all rest = value wide rest
 
-none-requires : tie.Need-none-requires Inv-loop μ-loop
-none-requires c κs = search needs
-
-loop-holds : tie.Need-loop-holds Inv-loop μ-loop
-loop-holds c = adding-start
-
-is-empty-requires : tie.Need-is-empty-requires Inv-loop μ-loop
-is-empty-requires c κs = search needs
-
-next-requires : tie.Need-next-requires Inv-loop μ-loop
-next-requires c κs = some-left _ (c .before .is-empty .ensures) (c .if1 .taken)
-
-hand-requires : tie.Need-hand-requires Inv-loop μ-loop
-hand-requires c κs = search needs
-
-loop-less : tie.Need-loop-less Inv-loop μ-loop
-loop-less c = c .before .before .next .ensures .less
-
-loop-again : tie.Need-loop-again Inv-loop μ-loop
-loop-again c =
-    let next = c .before .before in
-    let loop = next .before .before .before in
-    let a = loop .before .before .before .args in
-    let r = arrays (a .first .now) (a .second .now) (a .third .now) (a .fourth .now) in
-    adding-next (next .next .ensures) (turn-handed r (c .before .hand .ensures)) (loop .loop .inv)
-
-returns : tie.Need-returns Inv-loop μ-loop
-returns c =
-    let loop = c .before .before in
-    added-whole (loop .before .none .ensures) (adding-end (none-left _ (c .before .is-empty .ensures) (c .if1 .left)) (loop .loop .inv))
-
 pub gather-handed-spec : {M : Type 1} → statement M
 gather-handed-spec =
-    tie.close
-    (tie.spec
-    Inv-loop
-    μ-loop
-    none-requires
-    loop-holds
-    is-empty-requires
-    next-requires
-    hand-requires
-    loop-less
-    loop-again
-    returns)
+    tie.close (tie.spec Inv-loop μ-loop (λ c κs. search needs) (λ c. adding-start) (λ c κs. search needs)
+    (λ c κs. some-left _ (c .before .is-empty .ensures) (c .if1 .taken)) (λ c κs. search needs)
+    (λ c. c .before .before .next .ensures .less) (λ c. search (needs, adding-next, turn-handed))
+    (λ c. search (needs, added-whole, adding-end, none-left)))

@@ -10,7 +10,7 @@ use Rattle.uses.specs.Use.{tells}
 use Rattle.host.specs.Lays.{Lays, FormalsOf, ReturnsOf, arrays}
 use Rattle.shared.specs.Apply.{Applies}
 use Rattle.passes.proofs.Every.{applies-none, applies-same}
-use Rattle.passes.proofs.Guests.{guestList, guest-next, guest-all, guest-turn}
+use Rattle.passes.proofs.Guests.{guestList, guest-all, guest-turn}
 use Rattle.passes.proofs.guest.guest.Statement.{statement}
 use Rattle.passes.proofs.guest.guest.Tie as tie
 
@@ -26,20 +26,11 @@ abbrev μ-loop : tie.MeasureT-loop
 loop-holds : tie.Need-loop-holds Inv-loop μ-loop
 loop-holds c = (refl, omega arith, λ p lays formals returning. applies-none _ refl)
 
-statement-requires : tie.Need-statement-requires Inv-loop μ-loop
-statement-requires c κs = search needs
-
 apply-requires : tie.Need-apply-requires Inv-loop μ-loop
 apply-requires c κs =
     let loop = c .before .before .before .before in
     let start = loop .before .before in
     (rw (loop .loop .inv .0) (start .pre), c .statement .ensures .1 (start .args .wide))
-
-add-i : tie.Need-add-i Inv-loop μ-loop
-add-i c = search needs
-
-loop-less : tie.Need-loop-less Inv-loop μ-loop
-loop-less c = search needs
 
 loop-again : tie.Need-loop-again Inv-loop μ-loop
 loop-again c =
@@ -53,9 +44,6 @@ loop-again c =
           (said .statement .ensures .0 p) (turn .apply .ensures p lays formals returning),
     )
 
-same-length : tie.Need-same-length Inv-loop μ-loop
-same-length c = search needs
-
 returns : tie.Need-returns Inv-loop μ-loop
 returns c =
     let loop = c .before in
@@ -64,15 +52,5 @@ returns c =
 
 pub guest-spec : {M : Type 1} → statement M
 guest-spec =
-    tie.close
-    (tie.spec
-    Inv-loop
-    μ-loop
-    loop-holds
-    statement-requires
-    apply-requires
-    add-i
-    loop-less
-    loop-again
-    same-length
-    returns)
+    tie.close (tie.spec Inv-loop μ-loop loop-holds (λ c κs. search needs) apply-requires (λ c. search needs) (λ c. search needs)
+    loop-again (λ c. search needs) returns)

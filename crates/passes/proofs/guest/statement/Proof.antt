@@ -1,13 +1,11 @@
 -- The guest's statements, by their numbers. Assumes nothing.
 use borrow.Author.Needs.{needs}
-use mathlib.Core.Path.{_≡_, refl}
-use native.Mathlib.Omega.{arith}
-use Prim.Native.Nat.{ℕ}
+use mathlib.Core.Path.{refl}
 use Rattle.rows.specs.declared.Var.{Var}
 use Rattle.rows.specs.declared.Label.{Label}
 use Rattle.passes.specs.Order.{theSite}
 use Rattle.records.specs.declared.Statement.the-variants.{MakeFunction, Load, Store, Call, New, Return, Throw, Catch}
-use Rattle.passes.proofs.Guests.{Said, said-at, three-labels, every-name, last-one}
+use Rattle.passes.proofs.Guests.{said-at, three-labels, every-name, last-one}
 use Rattle.passes.proofs.guest.statement.Statement.{statement}
 use Rattle.passes.proofs.guest.statement.Tie as tie
 
@@ -45,15 +43,5 @@ returns-8 c =
 
 pub statement-spec : {M : Type 1} → statement M
 statement-spec =
-    tie.close
-    (tie.spec
-    (λ c κs. search needs)
-    (λ c κs. search needs)
-    returns
-    returns-2
-    returns-3
-    returns-4
-    returns-5
-    returns-6
-    returns-7
-    returns-8)
+    tie.close (tie.spec (λ c κs. search needs) (λ c κs. search needs) returns returns-2 returns-3 returns-4 returns-5 returns-6
+    returns-7 returns-8)

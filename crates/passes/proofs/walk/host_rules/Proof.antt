@@ -1,12 +1,11 @@
 -- The rules of the records: the loop goes from record to record. Assumes nothing.
 use borrow.Author.Needs.{needs}
-use mathlib.Core.Path.{_≡_, refl, sym}
+use mathlib.Core.Path.{_≡_, refl}
 use native.Mathlib.Omega.{arith}
 use Prim.Native.Nat.{_-_}
 use lib.ListN.{length}
 use Rattle.rows.specs.Edition.{labels}
 use Rattle.format.proofs.File.{readable-read}
-use Rattle.records.proofs.Walks.{walk-room}
 use Rattle.host.specs.Lays.{Lays, FormalsOf, ReturnsOf, arrays}
 use Rattle.passes.proofs.Every.{applies-same}
 use Rattle.passes.proofs.Walked.{Walked, walked-start, walked-next, walked-end}
@@ -20,9 +19,6 @@ Inv-loop t₀ o wide host formals first second third fourth keeps₀ file grew�
 
 abbrev μ-loop : tie.MeasureT-loop
 μ-loop t₀ o wide host formals first second third fourth keeps₀ file grew₀ at₀ t keeps grew at = length file - at
-
-loop-holds : tie.Need-loop-holds Inv-loop μ-loop
-loop-holds c = (refl, walked-start (c .before .before .pre .1))
 
 statement-at-requires : tie.Need-statement-at-requires Inv-loop μ-loop
 statement-at-requires c κs =
@@ -61,9 +57,6 @@ loop-again c =
           (λ p known. applies-same _ _ (said .statement-at .ensures .0 p) (turn .apply .ensures p (known .0) (known .1) (known .2))),
     )
 
-same-length : tie.Need-same-length Inv-loop μ-loop
-same-length c = search needs
-
 returns : tie.Need-returns Inv-loop μ-loop
 returns c =
     let loop = c .before in
@@ -71,15 +64,5 @@ returns c =
 
 pub host-rules-spec : {M : Type 1} → statement M
 host-rules-spec =
-    tie.close
-    (tie.spec
-    Inv-loop
-    μ-loop
-    loop-holds
-    statement-at-requires
-    apply-requires
-    after-requires
-    loop-less
-    loop-again
-    same-length
-    returns)
+    tie.close (tie.spec Inv-loop μ-loop (λ c. (refl, walked-start (c .before .before .pre .1))) statement-at-requires
+    apply-requires after-requires loop-less loop-again (λ c. search needs) returns)

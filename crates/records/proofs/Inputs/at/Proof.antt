@@ -16,8 +16,7 @@ last i (suc (suc (suc (suc zero)))) a b c d e f = absurd (e refl)
 last i (suc (suc (suc (suc (suc zero))))) a b c d e f = absurd (f refl)
 last i (suc (suc (suc (suc (suc (suc j)))))) a b c d e f = refl
 
-returns-7 : tie.Need-returns-7
-returns-7 c = last (c .before .before .args .self) (c .before .before .args .j) (search needs) (search needs) (search needs) (search needs) (search needs) (search needs)
-
 pub at-spec : {M : Type 1} → statement M
-at-spec = tie.close (tie.spec (λ c. search needs) (λ c. search needs) (λ c. search needs) (λ c. search needs) (λ c. search needs) (λ c. search needs) returns-7)
+at-spec =
+    tie.close (tie.spec (λ c. search needs) (λ c. search needs) (λ c. search needs) (λ c. search needs) (λ c. search needs)
+    (λ c. search needs) (λ c. search (needs, last)))

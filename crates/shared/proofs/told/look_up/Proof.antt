@@ -1,23 +1,10 @@
 -- What labels hold under a key, joined to a row. Assumes nothing.
 use borrow.Author.Needs.{needs}
-use lib.ListN.{length}
 use Rattle.kept.specs.Promise.{under}
 use Rattle.uses.proofs.Rows.{row-fits, row-is}
 use Rattle.shared.proofs.Applied.{applies-told}
 use Rattle.shared.proofs.told.look_up.Statement.{statement}
 use Rattle.shared.proofs.told.look_up.Tie as tie
-
-row-requires : tie.Need-row-requires
-row-requires c κs =
-    let start = c .before .before in
-    let a = start .args in
-    row-fits (a .wide) (a .o) (a .y) (length (a .t .now)) (start .pre .0 .room) (start .pre .1)
-
-join-requires : tie.Need-join-requires
-join-requires c κs =
-    let start = c .before .before .before .before .before .before .before in
-    let a = start .args in
-    row-fits (a .wide) (a .o) (a .y) (length (a .t .now)) (start .pre .0 .room) (start .pre .1)
 
 returns : tie.Need-returns
 returns c =
@@ -31,10 +18,5 @@ returns c =
 
 pub look-up-spec : {M : Type 1} → statement M
 look-up-spec =
-    tie.close
-    (tie.spec
-    row-requires
-    (λ c κs. search needs)
-    join-requires
-    (λ c. search needs)
-    returns)
+    tie.close (tie.spec (λ c κs. search (needs, row-fits)) (λ c κs. search needs) (λ c κs. search (needs, row-fits))
+    (λ c. search needs) returns)

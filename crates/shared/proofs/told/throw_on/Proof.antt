@@ -1,25 +1,10 @@
 -- What functions throw, joined to the row of a scope. Assumes nothing.
 use borrow.Author.Needs.{needs}
-use lib.ListN.{length}
 use Rattle.kept.specs.Promise.{throws}
 use Rattle.uses.proofs.Rows.{row-fits, row-is}
 use Rattle.shared.proofs.Applied.{applies-told}
 use Rattle.shared.proofs.told.throw_on.Statement.{statement}
 use Rattle.shared.proofs.told.throw_on.Tie as tie
-
-row-requires : tie.Need-row-requires
-row-requires c κs =
-    let thrown = c .before in
-    let start = thrown .before .before in
-    let a = start .args in
-    row-fits (a .wide) (a .o) (thrown .thrown .result) (length (a .t .now)) (start .pre .0 .room) (thrown .thrown .ensures .1)
-
-join-requires : tie.Need-join-requires
-join-requires c κs =
-    let thrown = c .before .before .before .before .before .before in
-    let start = thrown .before .before in
-    let a = start .args in
-    row-fits (a .wide) (a .o) (thrown .thrown .result) (length (a .t .now)) (start .pre .0 .room) (thrown .thrown .ensures .1)
 
 returns : tie.Need-returns
 returns c =
@@ -35,11 +20,5 @@ returns c =
 
 pub throw-on-spec : {M : Type 1} → statement M
 throw-on-spec =
-    tie.close
-    (tie.spec
-    (λ c κs. search needs)
-    row-requires
-    (λ c κs. search needs)
-    join-requires
-    (λ c. search needs)
-    returns)
+    tie.close (tie.spec (λ c κs. search needs) (λ c κs. search (needs, row-fits)) (λ c κs. search needs)
+    (λ c κs. search (needs, row-fits)) (λ c. search needs) returns)

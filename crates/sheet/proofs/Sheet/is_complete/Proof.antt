@@ -40,31 +40,10 @@ seen c =
     let h : l < n = rw (c .before .before .before .before .before .labels .ensures .0) at (c .before .before .before .loop-test .taken) in
     (omega arith, omega arith, rw (cut-entry n (v .t1 .types) l l refl h, cut-entry n (v .t1 .defined) l l refl h) (sym (c .both .ensures)))
 
-labels-requires : tie.Need-labels-requires Inv-loop μ-loop
-labels-requires c κs = search needs
-
-loop-holds : tie.Need-loop-holds Inv-loop μ-loop
-loop-holds c = (search needs, refl)
-
-element-copy-out-both : tie.Need-element-copy-out-both Inv-loop μ-loop
-element-copy-out-both c = search needs
-
-element-copy-out-both-2 : tie.Need-element-copy-out-both-2 Inv-loop μ-loop
-element-copy-out-both-2 c = search needs
-
-both-requires : tie.Need-both-requires Inv-loop μ-loop
-both-requires c κs = search needs
-
 returns : tie.Need-returns Inv-loop μ-loop
 returns c =
     let h = seen (c .before) in
     ap not (sym (c .before .before .before .before .before .loop .inv .1 ∙ lacking-here _ _ _ (h .0) (h .1) (h .2 ∙ c .if1 .taken)))
-
-add-l : tie.Need-add-l Inv-loop μ-loop
-add-l c = search needs
-
-loop-less : tie.Need-loop-less Inv-loop μ-loop
-loop-less c = search needs
 
 loop-again : tie.Need-loop-again Inv-loop μ-loop
 loop-again c =
@@ -82,17 +61,5 @@ returns-2 c =
 
 pub is-complete-spec : {M : Type 1} → statement M
 is-complete-spec =
-    tie.close
-    (tie.spec
-    Inv-loop
-    μ-loop
-    labels-requires
-    loop-holds
-    element-copy-out-both
-    element-copy-out-both-2
-    both-requires
-    returns
-    add-l
-    loop-less
-    loop-again
-    returns-2)
+    tie.close (tie.spec Inv-loop μ-loop (λ c κs. search needs) (λ c. (search needs, refl)) (λ c. search needs) (λ c. search needs)
+    (λ c κs. search needs) returns (λ c. search needs) (λ c. search needs) loop-again returns-2)

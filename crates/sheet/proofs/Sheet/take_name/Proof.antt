@@ -15,12 +15,5 @@ returns-2 c = rw (← c .before .before .before .index .ensures .0) (search case
 
 pub take-name-spec : {M : Type 1} → statement M
 take-name-spec =
-    tie.close
-    (tie.spec
-    (λ c. search needs)
-    (λ c κs. search needs)
-    (λ c. search needs)
-    returns
-    (λ c. search needs)
-    (λ c. search needs)
-    returns-2)
+    tie.close (tie.spec (λ c. search needs) (λ c κs. search needs) (λ c. search needs) returns (λ c. search needs)
+    (λ c. search needs) returns-2)

@@ -28,12 +28,6 @@ Inv-loop t₀ file wide types flags masks formals host first second third fourth
 abbrev μ-loop : tie.MeasureT-loop
 μ-loop t₀ file wide types flags masks formals host first second third fourth keeps₀ passes₀ again₀ t keeps passes again = left wide again t
 
-lay-requires : tie.Need-lay-requires Inv-loop μ-loop
-lay-requires c κs = search needs
-
-collect-requires : tie.Need-collect-requires Inv-loop μ-loop
-collect-requires c κs = (c .before .before .before .before .before .before .before .before .pre .1, refl, refl, refl, refl)
-
 loop-holds : tie.Need-loop-holds Inv-loop μ-loop
 loop-holds c =
     let start = c .before .before .before .before .before .before .before .before .before in
@@ -43,20 +37,11 @@ loop-holds c =
       remembers = remembers-none (zero-at 256);
     }
 
-forget-requires : tie.Need-forget-requires Inv-loop μ-loop
-forget-requires c κs = search needs
-
 pass-requires : tie.Need-pass-requires Inv-loop μ-loop
 pass-requires c κs =
     let loop = c .before .before .before .before .before .before .before .before .before .before in
     let start = loop .before .before .before .before .before .before .before .before .before .before in
     (record { room = rw (reached-length (loop .loop .inv .solving .reached)) (omega (arith, start .pre .0)); apart = inl refl }, start .pre .1)
-
-one-more-requires : tie.Need-one-more-requires Inv-loop μ-loop
-one-more-requires c κs = search needs
-
-is-worth-requires : tie.Need-is-worth-requires Inv-loop μ-loop
-is-worth-requires c κs = search needs
 
 search-on-requires : tie.Need-search-on-requires Inv-loop μ-loop
 search-on-requires c κs =
@@ -86,9 +71,6 @@ loop-again c =
     turned _ _ _ (rules-fit (labels (start .args .wide)) (start .args .file .now) (five-labels (start .args .wide)) (start .pre .1)) (c .before .before .before .before .before .before .before .before .before .before .before .before .before .before .before .before .before .before .before .before .before .before .forget .ensures) (c .before .before .before .before .before .before .before .before .before .before .before .before .before .before .pass .ensures known-here)
     (c .before .before .search-on .ensures .0 known-here) (c .before .before .search-on .ensures .1) (c .before .before .before .before .before .before .before .before .before .before .is-worth .ensures) (loop .loop .inv)
 
-same-length : tie.Need-same-length Inv-loop μ-loop
-same-length c = reached-length (c .before .loop .inv .solving .reached)
-
 returns : tie.Need-returns Inv-loop μ-loop
 returns c =
     let loop = c .before in
@@ -104,19 +86,6 @@ returns c =
 
 pub settle-spec : {M : Type 1} → statement M
 settle-spec =
-    tie.close
-    (tie.spec
-    Inv-loop
-    μ-loop
-    lay-requires
-    collect-requires
-    loop-holds
-    forget-requires
-    pass-requires
-    one-more-requires
-    is-worth-requires
-    search-on-requires
-    loop-less
-    loop-again
-    same-length
-    returns)
+    tie.close (tie.spec Inv-loop μ-loop (λ c κs. search needs) (λ c κs. search needs) loop-holds (λ c κs. search needs)
+    pass-requires (λ c κs. search needs) (λ c κs. search needs) search-on-requires loop-less loop-again
+    (λ c. reached-length (c .before .loop .inv .solving .reached)) returns)

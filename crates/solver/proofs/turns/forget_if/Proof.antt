@@ -7,13 +7,5 @@ use Rattle.solver.proofs.turns.forget_if.Tie as tie
 returns : tie.Need-returns
 returns c = λ o p old t since m. remembers-since since (c .forget .ensures o p old t m)
 
-returns-2 : tie.Need-returns-2
-returns-2 c = λ o p old t since m. m
-
 pub forget-if-spec : {M : Type 1} → statement M
-forget-if-spec =
-    tie.close
-    (tie.spec
-    (λ c κs. search needs)
-    returns
-    returns-2)
+forget-if-spec = tie.close (tie.spec (λ c κs. search needs) returns (λ c o p old t since m. m))

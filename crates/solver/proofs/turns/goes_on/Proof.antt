@@ -4,12 +4,5 @@ use Rattle.solver.proofs.Turning.{never}
 use Rattle.solver.proofs.turns.goes_on.Statement.{statement}
 use Rattle.solver.proofs.turns.goes_on.Tie as tie
 
-returns : tie.Need-returns
-returns c = λ e. never e
-
 pub goes-on-spec : {M : Type 1} → statement M
-goes-on-spec =
-    tie.close
-    (tie.spec
-    returns
-    (λ c. search needs))
+goes-on-spec = tie.close (tie.spec (λ c e. never e) (λ c. search needs))

@@ -32,16 +32,10 @@ room-after c =
     let start = loop .before .before .before .before .before .before .before .before .before in
     rw (c .use-at .ensures .1 ∙ loop .loop .inv .0) (read-room (start .args .wide) (start .pre .0))
 
-returns : tie.Need-returns Inv-loop μ-loop
-returns c = (λ known. steps-none, λ e. refl)
-
 index-file-requires : tie.Need-index-file-requires Inv-loop μ-loop
 index-file-requires c κs =
     let start = c .before .before .before .before .before .before .before in
     (start .pre .1, readable-read (labels (start .args .wide)) (start .args .file .now) (start .pre .1) .short, zero-at 256, zero-at 256)
-
-loop-holds : tie.Need-loop-holds Inv-loop μ-loop
-loop-holds c = (refl, λ e. omega arith, λ known. steps-none)
 
 next-requires : tie.Need-next-requires Inv-loop μ-loop
 next-requires c κs =
@@ -56,28 +50,10 @@ use-at-requires c κs =
     let start = loop .before .before .before .before .before .before .before .before .before in
     (rw (loop .loop .inv .0) (start .pre .0), start .pre .1, next .next .ensures (loop .before .index-file .ensures))
 
-forget-if-requires : tie.Need-forget-if-requires Inv-loop μ-loop
-forget-if-requires c κs = search needs
-
-grown-at-requires : tie.Need-grown-at-requires Inv-loop μ-loop
-grown-at-requires c κs = search needs
-
-ends-read-requires : tie.Need-ends-read-requires Inv-loop μ-loop
-ends-read-requires c κs = room-after (c .before .before .before .before .before .before .before)
-
-note-grown-requires : tie.Need-note-grown-requires Inv-loop μ-loop
-note-grown-requires c κs = room-after (c .before .before .before .before .before .before .before .before .before .before .before .before .before .before)
-
-begin-round-requires : tie.Need-begin-round-requires Inv-loop μ-loop
-begin-round-requires c κs = room-after (c .before .before .before .before .before .before .before .before .before .before .before .before .before .before .before .before .before .before .before)
-
 add-turns : tie.Need-add-turns Inv-loop μ-loop
 add-turns c =
     let loop = c .before .before .before .before .before .before .before .before .before .before .before .before .before .before .before .before .before .before .before .before .before .before .before .before .before .before .before .before .before .before .before in
     omega (arith, loop .loop .inv .1 (c .before .before .before .before .before .before .before .before .before .before .before .before .before .before .before .before .before .before .before .before .before .before .before .before .before .before .before .before .before .before .loop-test .taken))
-
-goes-on-requires : tie.Need-goes-on-requires Inv-loop μ-loop
-goes-on-requires c κs = search needs
 
 loop-less : tie.Need-loop-less Inv-loop μ-loop
 loop-less c =
@@ -94,9 +70,6 @@ loop-again c =
       λ known. steps-on (loop .loop .inv .2 known) (steps-on (turn .use-at .ensures .0 known) (steps-forget (forget .forget-if .ensures))),
     )
 
-same-length : tie.Need-same-length Inv-loop μ-loop
-same-length c = c .before .loop .inv .0
-
 returns-2 : tie.Need-returns-2 Inv-loop μ-loop
 returns-2 c =
     let loop = c .before in
@@ -104,23 +77,8 @@ returns-2 c =
 
 pub search-on-spec : {M : Type 1} → statement M
 search-on-spec =
-    tie.close
-    (tie.spec
-    Inv-loop
-    μ-loop
-    returns
-    index-file-requires
-    loop-holds
-    next-requires
-    use-at-requires
-    forget-if-requires
-    grown-at-requires
-    ends-read-requires
-    note-grown-requires
-    begin-round-requires
-    add-turns
-    goes-on-requires
-    loop-less
-    loop-again
-    same-length
+    tie.close (tie.spec Inv-loop μ-loop (λ c. (λ known. steps-none, λ e. refl)) index-file-requires
+    (λ c. (refl, λ e. omega arith, λ known. steps-none)) next-requires use-at-requires (λ c κs. search needs)
+    (λ c κs. search needs) (λ c κs. search (needs, room-after)) (λ c κs. search (needs, room-after))
+    (λ c κs. search (needs, room-after)) add-turns (λ c κs. search needs) loop-less loop-again (λ c. c .before .loop .inv .0)
     returns-2)

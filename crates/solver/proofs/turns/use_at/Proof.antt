@@ -27,18 +27,7 @@ returns-2 c =
     let named = start .pre .2 (test .if2 .taken) in
     (λ known. steps-record (said .statement-at .result) (named .0) (named .1) (said .statement-at .ensures .0 _) (turn .apply .ensures _ (known .lays) (known .formals-of) (known .returning)), search needs)
 
-returns-3 : tie.Need-returns-3
-returns-3 c = (λ known. steps-none, refl)
-
 pub use-at-spec : {M : Type 1} → statement M
 use-at-spec =
-    tie.close
-    (tie.spec
-    (λ c κs. search needs)
-    (λ c. search needs)
-    returns
-    statement-at-requires
-    (λ c κs. search needs)
-    (λ c. search needs)
-    returns-2
-    returns-3)
+    tie.close (tie.spec (λ c κs. search needs) (λ c. search needs) returns statement-at-requires (λ c κs. search needs)
+    (λ c. search needs) returns-2 (λ c. (λ known. steps-none, refl)))

@@ -4,8 +4,5 @@ use borrow.Author.Needs.{needs}
 use Rattle.uses.proofs.spread.formal.Statement.{statement}
 use Rattle.uses.proofs.spread.formal.Tie as tie
 
-returns : tie.Need-returns
-returns c = refl
-
 pub formal-spec : {M : Type 1} → statement M
-formal-spec = tie.close (tie.spec (λ c. search needs) (λ c. search needs) (λ c. search needs) (λ c. search needs) returns)
+formal-spec = tie.close (tie.spec (λ c. search needs) (λ c. search needs) (λ c. search needs) (λ c. search needs) (λ c. refl))

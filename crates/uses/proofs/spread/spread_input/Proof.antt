@@ -18,33 +18,12 @@ Inv-loop t₀ o wide formals j x grew₀ least₀ rest₀ t grew least rest =
 abbrev μ-loop : tie.MeasureT-loop
 μ-loop t₀ o wide formals j x grew₀ least₀ rest₀ t grew least rest = value wide rest
 
-full-requires : tie.Need-full-requires Inv-loop μ-loop
-full-requires c κs = search needs
-
-loop-holds : tie.Need-loop-holds Inv-loop μ-loop
-loop-holds c = (refl, spreading-start)
-
-is-empty-requires : tie.Need-is-empty-requires Inv-loop μ-loop
-is-empty-requires c κs = search needs
-
-next-requires : tie.Need-next-requires Inv-loop μ-loop
-next-requires c κs = some-left _ (c .before .is-empty .ensures) (c .if1 .taken)
-
-formal-requires : tie.Need-formal-requires Inv-loop μ-loop
-formal-requires c κs = search needs
-
-row-requires : tie.Need-row-requires Inv-loop μ-loop
-row-requires c κs = search needs
-
 spread-one-requires : tie.Need-spread-one-requires Inv-loop μ-loop
 spread-one-requires c κs =
     let formal = c .before .before in
     let loop = formal .before .before .before .before in
     let start = loop .before .before .before in
     (rw (loop .loop .inv .0) (start .pre .0), variable-row (start .args .wide) (c .row .ensures .1))
-
-loop-less : tie.Need-loop-less Inv-loop μ-loop
-loop-less c = c .before .before .before .before .before .before .before .before .before .next .ensures .less
 
 loop-again : tie.Need-loop-again Inv-loop μ-loop
 loop-again c =
@@ -61,29 +40,8 @@ loop-again c =
           (one .spread-one .ensures .1) (loop .loop .inv .1),
     )
 
-same-length : tie.Need-same-length Inv-loop μ-loop
-same-length c = search needs
-
-returns : tie.Need-returns Inv-loop μ-loop
-returns c =
-    let loop = c .before .before in
-    let start = loop .before .before .before in
-    spreading-end (start .pre .0 .apart) (none-left _ (c .before .is-empty .ensures) (c .if1 .left)) (loop .loop .inv .1)
-
 pub spread-input-spec : {M : Type 1} → statement M
 spread-input-spec =
-    tie.close
-    (tie.spec
-    Inv-loop
-    μ-loop
-    full-requires
-    loop-holds
-    is-empty-requires
-    next-requires
-    formal-requires
-    row-requires
-    spread-one-requires
-    loop-less
-    loop-again
-    same-length
-    returns)
+    tie.close (tie.spec Inv-loop μ-loop (λ c κs. search needs) (λ c. (refl, spreading-start)) (λ c κs. search needs)
+    (λ c κs. some-left _ (c .before .is-empty .ensures) (c .if1 .taken)) (λ c κs. search needs) (λ c κs. search needs)
+    spread-one-requires (λ c. search needs) loop-again (λ c. search needs) (λ c. search (needs, spreading-end, none-left)))

@@ -17,12 +17,6 @@ Inv-loop t₀ o wide base w x grew₀ least₀ rest₀ t grew least rest =
 abbrev μ-loop : tie.MeasureT-loop
 μ-loop t₀ o wide base w x grew₀ least₀ rest₀ t grew least rest = rest
 
-loop-holds : tie.Need-loop-holds Inv-loop μ-loop
-loop-holds c = (refl, spreading-start)
-
-next-requires : tie.Need-next-requires Inv-loop μ-loop
-next-requires c κs = search needs
-
 add-r : tie.Need-add-r Inv-loop μ-loop
 add-r c =
     let next = c .before in
@@ -36,39 +30,7 @@ spread-one-requires c κs =
     let start = loop .before .before in
     (rw (loop .loop .inv .0) (start .pre .0), omega (arith, next .next .ensures .below, start .pre .1))
 
-loop-less : tie.Need-loop-less Inv-loop μ-loop
-loop-less c = c .before .before .before .before .before .before .before .next .ensures .less
-
-loop-again : tie.Need-loop-again Inv-loop μ-loop
-loop-again c =
-    let one = c .before .before .before .before in
-    let next = one .before .before .before in
-    let loop = next .before .before in
-    let start = loop .before .before in (
-      search needs,
-      spreading-next (start .pre .0 .apart) (next .next .ensures) (one .spread-one .ensures .0) (one .spread-one .ensures .1) (loop .loop .inv .1),
-    )
-
-same-length : tie.Need-same-length Inv-loop μ-loop
-same-length c = search needs
-
-returns : tie.Need-returns Inv-loop μ-loop
-returns c =
-    let loop = c .before in
-    let start = loop .before .before in
-    (spreading-end (start .pre .0 .apart) (c .loop-test .left) (loop .loop .inv .1), loop .loop .inv .1 .shrinks)
-
 pub spread-names-spec : {M : Type 1} → statement M
 spread-names-spec =
-    tie.close
-    (tie.spec
-    Inv-loop
-    μ-loop
-    loop-holds
-    next-requires
-    add-r
-    spread-one-requires
-    loop-less
-    loop-again
-    same-length
-    returns)
+    tie.close (tie.spec Inv-loop μ-loop (λ c. (refl, spreading-start)) (λ c κs. search needs) add-r spread-one-requires
+    (λ c. search needs) (λ c. search (needs, spreading-next)) (λ c. search needs) (λ c. search (needs, spreading-end)))

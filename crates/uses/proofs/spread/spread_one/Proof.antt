@@ -7,15 +7,6 @@ use Rattle.uses.proofs.Spreads.{spread-nowhere, spread-row, meet-start}
 use Rattle.uses.proofs.spread.spread_one.Statement.{statement}
 use Rattle.uses.proofs.spread.spread_one.Tie as tie
 
-returns : tie.Need-returns
-returns c = (spread-nowhere (c .if1 .taken), λ m h. h)
-
-join-requires : tie.Need-join-requires
-join-requires c κs =
-    let start = c .before .before .before in
-    let a = start .args in
-    row-fits (a .wide) (a .o) (a .r) (length (a .t .now)) (start .pre .0 .room) (start .pre .1)
-
 row-requires : tie.Need-row-requires
 row-requires c κs =
     let join = c .before .before .before in
@@ -36,4 +27,5 @@ returns-2 c =
 
 pub spread-one-spec : {M : Type 1} → statement M
 spread-one-spec =
-    tie.close (tie.spec returns join-requires row-requires (λ c κs. search needs) (λ c. search needs) returns-2)
+    tie.close (tie.spec (λ c. (spread-nowhere (c .if1 .taken), λ m h. h)) (λ c κs. search (needs, row-fits)) row-requires
+    (λ c κs. search needs) (λ c. search needs) returns-2)
