@@ -20,12 +20,6 @@ Inv-loop table declared wide t₀ n r₀ t r =
 abbrev μ-loop : tie.MeasureT-loop
 μ-loop table declared wide t₀ n r₀ t r = n - r
 
-row-count-requires : tie.Need-row-count-requires Inv-loop μ-loop
-row-count-requires c κs = search needs
-
-none-requires : tie.Need-none-requires Inv-loop μ-loop
-none-requires c κs = search needs
-
 write-both-requires : tie.Need-write-both-requires Inv-loop μ-loop
 write-both-requires c κs = let start = c .before .before .before .before .before in (start .pre .1, omega arith)
 
@@ -45,21 +39,12 @@ row-requires c κs =
     let a = start .args in
     row-read (a .wide) (at .loop .r) (length (a .table .now)) (start .pre .0) (omega (arith, count .row-count .ensures .0))
 
-meet-requires : tie.Need-meet-requires Inv-loop μ-loop
-meet-requires c κs = search needs
-
 write-both-requires-2 : tie.Need-write-both-requires-2 Inv-loop μ-loop
 write-both-requires-2 c κs =
     let at = c .before .before .before .before in
     let count = at .before .before .before .before .before .before in
     let start = count .before .before .before in
     (omega (arith, start .pre .1, at .loop .inv .2), omega (arith, count .row-count .ensures .0))
-
-add-r : tie.Need-add-r Inv-loop μ-loop
-add-r c = search needs
-
-loop-less : tie.Need-loop-less Inv-loop μ-loop
-loop-less c = search needs
 
 loop-again : tie.Need-loop-again Inv-loop μ-loop
 loop-again c =
@@ -76,9 +61,6 @@ loop-again c =
       cleans-next (a .wide) (a .table .now) (at .loop .r) (at .loop .inv .0) inside (row .row .ensures) (meet .meet .ensures) (write .write-both2 .ensures) (at .loop .inv .3),
     )
 
-same-length : tie.Need-same-length Inv-loop μ-loop
-same-length c = search needs
-
 returns : tie.Need-returns Inv-loop μ-loop
 returns c =
     let at = c .before in
@@ -92,15 +74,15 @@ clean-spec =
     (tie.spec
     Inv-loop
     μ-loop
-    row-count-requires
-    none-requires
+    (λ c κs. search needs)
+    (λ c κs. search needs)
     write-both-requires
     loop-holds
     row-requires
-    meet-requires
+    (λ c κs. search needs)
     write-both-requires-2
-    add-r
-    loop-less
+    (λ c. search needs)
+    (λ c. search needs)
     loop-again
-    same-length
+    (λ c. search needs)
     returns)

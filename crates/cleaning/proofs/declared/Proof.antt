@@ -15,12 +15,6 @@ Inv-loop types wide n all₀ l₀ all l = (l ≤ n) × DeclaresBelow wide types 
 abbrev μ-loop : tie.MeasureT-loop
 μ-loop types wide n all₀ l₀ all l = n - l
 
-labels-requires : tie.Need-labels-requires Inv-loop μ-loop
-labels-requires c κs = search needs
-
-none-requires : tie.Need-none-requires Inv-loop μ-loop
-none-requires c κs = search needs
-
 loop-holds : tie.Need-loop-holds Inv-loop μ-loop
 loop-holds c = let a = c .before .before .args in (search needs, declares-none (a .wide) (a .types .now) (c .none .ensures))
 
@@ -29,12 +23,6 @@ element-copy-out-with-label c = omega (arith, c .before .before .before .labels 
 
 with-label-requires : tie.Need-with-label-requires Inv-loop μ-loop
 with-label-requires c κs = omega (arith, c .before .before .before .before .labels .ensures .0)
-
-add-l : tie.Need-add-l Inv-loop μ-loop
-add-l c = search needs
-
-loop-less : tie.Need-loop-less Inv-loop μ-loop
-loop-less c = search needs
 
 loop-again : tie.Need-loop-again Inv-loop μ-loop
 loop-again c =
@@ -57,12 +45,12 @@ declared-spec =
     (tie.spec
     Inv-loop
     μ-loop
-    labels-requires
-    none-requires
+    (λ c κs. search needs)
+    (λ c κs. search needs)
     loop-holds
     element-copy-out-with-label
     with-label-requires
-    add-l
-    loop-less
+    (λ c. search needs)
+    (λ c. search needs)
     loop-again
     returns)

@@ -16,12 +16,6 @@ Inv-loop t wide n o low₀ low = (low ≤ n) × SameBelow wide t low
 abbrev μ-loop : tie.MeasureT-loop
 μ-loop t wide n o low₀ low = n - low
 
-row-count-requires : tie.Need-row-count-requires Inv-loop μ-loop
-row-count-requires c κs = search needs
-
-word-count-requires : tie.Need-word-count-requires Inv-loop μ-loop
-word-count-requires c κs = search needs
-
 loop-holds : tie.Need-loop-holds Inv-loop μ-loop
 loop-holds c = let a = c .before .before .before .args in (search needs, same-none (a .wide) (a .t .now))
 
@@ -43,9 +37,6 @@ row-requires-2 c κs =
     row-fits (a .wide) (words .word-count .result) (at .loop .low) (length (a .t .now)) (omega (arith, words .word-count .ensures .0, start .pre))
     (omega (arith, count .row-count .ensures .0))
 
-is-within-requires : tie.Need-is-within-requires Inv-loop μ-loop
-is-within-requires c κs = search needs
-
 returns : tie.Need-returns Inv-loop μ-loop
 returns c =
     let test = c .before in
@@ -59,12 +50,6 @@ returns c =
     let inside : at .loop .low < rowCount (labels (a .wide)) = omega (arith, count .row-count .ensures .0) in
     grown-here (a .wide) (a .t .now) (words .word-count .result) (at .loop .low) (words .word-count .ensures .0) inside (first .row .ensures) (second .row2 .ensures)
     (test .is-within .ensures .0) (λ i. known .shared-slice-known .given i .fits) (c .if1 .taken) (at .loop .inv .1)
-
-add-low : tie.Need-add-low Inv-loop μ-loop
-add-low c = search needs
-
-loop-less : tie.Need-loop-less Inv-loop μ-loop
-loop-less c = search needs
 
 loop-again : tie.Need-loop-again Inv-loop μ-loop
 loop-again c =
@@ -94,14 +79,14 @@ lowest-grown-spec =
     (tie.spec
     Inv-loop
     μ-loop
-    row-count-requires
-    word-count-requires
+    (λ c κs. search needs)
+    (λ c κs. search needs)
     loop-holds
     row-requires
     row-requires-2
-    is-within-requires
+    (λ c κs. search needs)
     returns
-    add-low
-    loop-less
+    (λ c. search needs)
+    (λ c. search needs)
     loop-again
     returns-2)

@@ -14,23 +14,8 @@ Inv-loop t₀ wide n i₀ t i = (i ≤ n) × (length t ≡ length t₀) × Zeroe
 abbrev μ-loop : tie.MeasureT-loop
 μ-loop t₀ wide n i₀ t i = n - i
 
-word-count-requires : tie.Need-word-count-requires Inv-loop μ-loop
-word-count-requires c κs = search needs
-
 loop-holds : tie.Need-loop-holds Inv-loop μ-loop
 loop-holds c = (search needs, refl, zeroed-none)
-
-mul-t : tie.Need-mul-t Inv-loop μ-loop
-mul-t c = search needs
-
-slice-write-t : tie.Need-slice-write-t Inv-loop μ-loop
-slice-write-t c = search needs
-
-add-i : tie.Need-add-i Inv-loop μ-loop
-add-i c = search needs
-
-loop-less : tie.Need-loop-less Inv-loop μ-loop
-loop-less c = search needs
 
 loop-again : tie.Need-loop-again Inv-loop μ-loop
 loop-again c =
@@ -39,9 +24,6 @@ loop-again c =
     let start = count .before .before in
     let inside : loop .i < length (start .args .t .now) = omega (arith, count .word-count .ensures .0, start .pre) in
     (search needs, simp length-set (loop .inv .1), zeroed-next inside (loop .inv .2))
-
-same-length : tie.Need-same-length Inv-loop μ-loop
-same-length c = search needs
 
 returns : tie.Need-returns Inv-loop μ-loop
 returns c =
@@ -55,12 +37,12 @@ clear-spec =
     (tie.spec
     Inv-loop
     μ-loop
-    word-count-requires
+    (λ c κs. search needs)
     loop-holds
-    mul-t
-    slice-write-t
-    add-i
-    loop-less
+    (λ c. search needs)
+    (λ c. search needs)
+    (λ c. search needs)
+    (λ c. search needs)
     loop-again
-    same-length
+    (λ c. search needs)
     returns)

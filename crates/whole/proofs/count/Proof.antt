@@ -21,9 +21,6 @@ Inv-loop t wide n all₀ r₀ all r = (r ≤ n) × (all ≤ 256 * r) × (total (
 abbrev μ-loop : tie.MeasureT-loop
 μ-loop t wide n all₀ r₀ all r = n - r
 
-row-count-requires : tie.Need-row-count-requires Inv-loop μ-loop
-row-count-requires c κs = search needs
-
 loop-holds : tie.Need-loop-holds Inv-loop μ-loop
 loop-holds c =
     let a = c .before .before .args in
@@ -36,21 +33,12 @@ row-requires c κs =
     let start = count .before .before in
     row-read (start .args .wide) (loop .r) (length (start .args .t .now)) (start .pre) (omega (arith, count .row-count .ensures .0))
 
-size-requires : tie.Need-size-requires Inv-loop μ-loop
-size-requires c κs = search needs
-
 add-all : tie.Need-add-all Inv-loop μ-loop
 add-all c =
     let at = c .before .before .before in
     let wide = at .before .before .before .args .wide in
     let most = row-most wide (value wide (c .before .row .result)) (c .size .ensures) in
     omega (arith, most, at .loop .inv .0, at .loop .inv .1, at .before .row-count .ensures .1)
-
-add-r : tie.Need-add-r Inv-loop μ-loop
-add-r c = search needs
-
-loop-less : tie.Need-loop-less Inv-loop μ-loop
-loop-less c = search needs
 
 loop-again : tie.Need-loop-again Inv-loop μ-loop
 loop-again c =
@@ -72,12 +60,12 @@ count-spec =
     (tie.spec
     Inv-loop
     μ-loop
-    row-count-requires
+    (λ c κs. search needs)
     loop-holds
     row-requires
-    size-requires
+    (λ c κs. search needs)
     add-all
-    add-r
-    loop-less
+    (λ c. search needs)
+    (λ c. search needs)
     loop-again
     returns)
