@@ -34,14 +34,5 @@ returns c =
 
 pub gap-by-spec : {M : Type 1} → statement M
 gap-by-spec =
-    tie.close
-    (tie.spec
-    (λ c κs. search needs)
-    (λ c κs. search needs)
-    (λ c κs. search needs)
-    (λ c κs. search needs)
-    (λ c κs. search needs)
-    pass-requires
-    lowest-grown-requires
-    (λ c. search needs)
-    returns)
+    tie.close (tie.spec (λ c κs. search needs) (λ c κs. search needs) (λ c κs. search needs) (λ c κs. search needs)
+    (λ c κs. search needs) pass-requires lowest-grown-requires (λ c. search needs) returns)

@@ -70,19 +70,5 @@ returns c =
 
 pub clean-spec : {M : Type 1} → statement M
 clean-spec =
-    tie.close
-    (tie.spec
-    Inv-loop
-    μ-loop
-    (λ c κs. search needs)
-    (λ c κs. search needs)
-    write-both-requires
-    loop-holds
-    row-requires
-    (λ c κs. search needs)
-    write-both-requires-2
-    (λ c. search needs)
-    (λ c. search needs)
-    loop-again
-    (λ c. search needs)
-    returns)
+    tie.close (tie.spec Inv-loop μ-loop (λ c κs. search needs) (λ c κs. search needs) write-both-requires loop-holds row-requires
+    (λ c κs. search needs) write-both-requires-2 (λ c. search needs) (λ c. search needs) loop-again (λ c. search needs) returns)

@@ -41,16 +41,5 @@ returns c =
 
 pub declared-spec : {M : Type 1} → statement M
 declared-spec =
-    tie.close
-    (tie.spec
-    Inv-loop
-    μ-loop
-    (λ c κs. search needs)
-    (λ c κs. search needs)
-    loop-holds
-    element-copy-out-with-label
-    with-label-requires
-    (λ c. search needs)
-    (λ c. search needs)
-    loop-again
-    returns)
+    tie.close (tie.spec Inv-loop μ-loop (λ c κs. search needs) (λ c κs. search needs) loop-holds element-copy-out-with-label
+    with-label-requires (λ c. search needs) (λ c. search needs) loop-again returns)

@@ -75,18 +75,5 @@ returns-2 c =
 
 pub lowest-grown-spec : {M : Type 1} → statement M
 lowest-grown-spec =
-    tie.close
-    (tie.spec
-    Inv-loop
-    μ-loop
-    (λ c κs. search needs)
-    (λ c κs. search needs)
-    loop-holds
-    row-requires
-    row-requires-2
-    (λ c κs. search needs)
-    returns
-    (λ c. search needs)
-    (λ c. search needs)
-    loop-again
-    returns-2)
+    tie.close (tie.spec Inv-loop μ-loop (λ c κs. search needs) (λ c κs. search needs) loop-holds row-requires row-requires-2
+    (λ c κs. search needs) returns (λ c. search needs) (λ c. search needs) loop-again returns-2)

@@ -31,5 +31,4 @@ returns c =
     both-stored (a .wide) (count .word-count .result) (a .r) (count .word-count .ensures .0) (start .pre .1) (first .write .ensures) (second .write2 .ensures)
 
 pub write-both-spec : {M : Type 1} → statement M
-write-both-spec =
-    tie.close (tie.spec (λ c κs. search needs) write-requires write-requires-2 (λ c. search needs) returns)
+write-both-spec = tie.close (tie.spec (λ c κs. search needs) write-requires write-requires-2 (λ c. search needs) returns)

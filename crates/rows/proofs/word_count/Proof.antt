@@ -11,5 +11,4 @@ returns-2 : tie.Need-returns-2
 returns-2 c = words-narrow _ (c .before .if1 .left) (c .row-count2 .ensures .0)
 
 pub word-count-spec : {M : Type 1} → statement M
-word-count-spec =
-    tie.close (tie.spec (λ c κs. search needs) (λ c. search needs) (λ c κs. search needs) returns returns-2)
+word-count-spec = tie.close (tie.spec (λ c κs. search needs) (λ c. search needs) (λ c κs. search needs) returns returns-2)

@@ -22,14 +22,5 @@ returns-4 c = c .has4 .ensures ∙ sym (value-bit _ _ 3 _ (search needs) (search
 
 pub has-spec : {M : Type 1} → statement M
 has-spec =
-    tie.close
-    (tie.spec
-    (λ c. search needs)
-    (λ c κs. search needs)
-    returns
-    (λ c κs. search needs)
-    returns-2
-    (λ c κs. search needs)
-    returns-3
-    has-requires-4
-    returns-4)
+    tie.close (tie.spec (λ c. search needs) (λ c κs. search needs) returns (λ c κs. search needs) returns-2 (λ c κs. search needs)
+    returns-3 has-requires-4 returns-4)

@@ -21,14 +21,5 @@ returns-4 c = single-d _ _ _ (search needs) (search needs) (c .single4 .ensures)
 
 pub single-spec : {M : Type 1} → statement M
 single-spec =
-    tie.close
-    (tie.spec
-    (λ c. search needs)
-    (λ c κs. search needs)
-    returns
-    (λ c κs. search needs)
-    returns-2
-    (λ c κs. search needs)
-    returns-3
-    single-requires-4
-    returns-4)
+    tie.close (tie.spec (λ c. search needs) (λ c κs. search needs) returns (λ c κs. search needs) returns-2 (λ c κs. search needs)
+    returns-3 single-requires-4 returns-4)

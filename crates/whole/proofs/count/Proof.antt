@@ -56,16 +56,5 @@ returns c =
 
 pub count-spec : {M : Type 1} → statement M
 count-spec =
-    tie.close
-    (tie.spec
-    Inv-loop
-    μ-loop
-    (λ c κs. search needs)
-    loop-holds
-    row-requires
-    (λ c κs. search needs)
-    add-all
-    (λ c. search needs)
-    (λ c. search needs)
-    loop-again
-    returns)
+    tie.close (tie.spec Inv-loop μ-loop (λ c κs. search needs) loop-holds row-requires (λ c κs. search needs) add-all
+    (λ c. search needs) (λ c. search needs) loop-again returns)
