@@ -24,8 +24,8 @@ extern "C" {
    A call keeps nothing from one call to the next and takes no memory but the stack, so threads may call at the same time, each with a table of its
    own. The stack that a call takes is the same for every file; as measured (bench/RESULTS.md), in bytes:
                 verdict     check
-       small     53,416    75,048
-       large     53,416   609,576
+       small     53,256    74,984
+       large     53,336   609,480
    The check has a second table. A thread with less dies; PEZVORAN_STACK_BYTES and PEZVORAN_LARGE_STACK_BYTES are what the tests give one. */
 
 /* The verdict: confined, leaks or refused. Unless it refuses, the first PEZVORAN_TABLE_WORDS words of the table, or PEZVORAN_LARGE_TABLE_WORDS, become

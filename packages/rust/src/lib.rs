@@ -39,8 +39,8 @@
 //! ```
 //!
 //! Both operations take any bytes and any table, empty ones too. They keep nothing from one call to the next and take no memory but the stack, so threads
-//! may call them at the same time, each with a table of its own. The stack that a call takes is the same for every file, as measured: 53,416 bytes for a
-//! verdict of either edition, 75,048 for a check, and 609,576 for one of the large edition. A thread with less dies; one with [`Edition::STACK_BYTES`] does not.
+//! may call them at the same time, each with a table of its own. The stack that a call takes is the same for every file, as measured: 53,256 bytes for a
+//! verdict and 74,984 for a check, in the large edition 53,336 and 609,480. A thread with less dies; one with [`Edition::STACK_BYTES`] does not.
 //! (What C has to see to, alignment and that file and table do not overlap, is in the types here.) The archives that `rt staticlib pezvoran` and
 //! `rt staticlib pezvoran_large` write are linked in.
 
