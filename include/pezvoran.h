@@ -26,7 +26,7 @@ extern "C" {
                 verdict     check
        small     53,256    74,984
        large     53,336   609,480
-   The check has a second table. A thread with less dies; PEZVORAN_STACK_BYTES and PEZVORAN_LARGE_STACK_BYTES are what the tests give one. */
+   The check has two tables of its own on the stack. A thread with less dies; PEZVORAN_STACK_BYTES and PEZVORAN_LARGE_STACK_BYTES are what the tests give one. */
 
 /* The verdict: confined, leaks or refused. Unless it refuses, the first PEZVORAN_TABLE_WORDS words of the table, or PEZVORAN_LARGE_TABLE_WORDS, become
    the finished table, whatever stood there; words beyond stay as they are. A refusal leaves every word as it is. */

@@ -21,20 +21,20 @@ use Rattle.soundness.specs.Confined as machine
 -- Demand 1, of a list of bytes. That every call ends is in the contracts: they equate the answer with a definition, and none has a `requires`.
 pub record Demand1 (L : ℕ) (xs : List ℕ) : Type 0 where
   -- "The answer to a statement file of whatever content is confined, leaks .., or a numbered refusal .."
-  pub verdict-answers : (words : ℕ)
-      → Confined (verdictOutcome L words xs) ⊎ (Leaks (verdictOutcome L words xs) ⊎ Refused 9 (verdictOutcome L words xs))
+  pub verdict-answers : (rows : ℕ)
+      → Confined (verdictOutcome L rows xs) ⊎ (Leaks (verdictOutcome L rows xs) ⊎ Refused 9 (verdictOutcome L rows xs))
   -- ".. leaks with the lowest forbidden label held ..", and beside it the guest's label
   pub lowest-label : (t : Table) (l guest count : ℕ) → verdictOutcome L (length t) xs ≡ leaks l guest count
       → LowestForbidden (programIn L xs .sheet) (verdictTable L xs t) l × (guest ≡ 3)
   -- ".. a numbered refusal with its position;": number and position are those of document 01's list
-  pub verdict-refuses : (words n at : ℕ) → (verdictOutcome L words xs ≡ refused n at) ↔ VerdictRefuses L xs words n at
+  pub verdict-refuses : (rows n at : ℕ) → (verdictOutcome L rows xs ≡ refused n at) ↔ VerdictRefuses L xs rows n at
   -- "to a file with a finished table it is accepted or a refusal."
   pub check-answers : (t : Table) → Accepts L xs t ⊎ (Refused 10 (checkOutcome L xs t) ⊎ Holds (checkOutcome L xs t))
   -- 1 to 10, and 11, which has the guest's label beside its position
   pub check-refuses : (t : Table) (n at : ℕ) → (checkOutcome L xs t ≡ refused n at) ↔ CheckRefuses L xs t n at
   pub check-holds : (t : Table) (l guest : ℕ) → (checkOutcome L xs t ≡ holds l guest) ↔ CheckHolds L xs t l guest
   -- "A file is refused only where it breaks the layout, or where file or table has a wrong size.": there, and nowhere else
-  pub refused-exactly : (words : ℕ) → Refused 9 (verdictOutcome L words xs) ↔ ((words < rowCount L) ⊎ (Concatenation L xs → ⊥))
+  pub refused-exactly : (rows : ℕ) → Refused 9 (verdictOutcome L rows xs) ↔ ((rows < rowCount L) ⊎ (Concatenation L xs → ⊥))
   pub readable-exactly : Readable L xs ↔ Concatenation L xs
   -- what rules and machine are given of a readable file are its records, each with its position, and the sheet that they make
   pub records-read : (c : Concatenation L xs) → readFile L xs .records ≡ positioned 0 (c .records)
@@ -42,7 +42,7 @@ pub record Demand1 (L : ℕ) (xs : List ℕ) : Type 0 where
   -- "A refusal leaves the lent table unaltered"
   pub refusal-leaves : (t : Table) (n at : ℕ) → verdictOutcome L (length t) xs ≡ refused n at → verdictTable L xs t ≡ t
   -- each part is read back from the word that is handed over; document 01: "label, count and position are 0 in any outcome that is not said to have them"
-  pub verdict-word : L ≤ 256 → (words : ℕ) → ReadBack (verdictOutcome L words xs)
+  pub verdict-word : L ≤ 256 → (rows : ℕ) → ReadBack (verdictOutcome L rows xs)
   pub check-word : L ≤ 256 → (t : Table) → ReadBack (checkOutcome L xs t)
 
 -- Demand 2, of a readable file and a lent table of full size.
@@ -65,11 +65,11 @@ pub record Demand3 (L : ℕ) (xs : List ℕ) : Type 0 where
   -- document 01: "In using the rules, row 0 and bits of undeclared labels count as absent."
   pub absent : (t : Table) (r l : ℕ) → Has (cleaned L (programIn L xs .sheet) t) r l ↔ Counts L (programIn L xs .sheet) t r l
   -- "A readable file, with a table of full size lent, gets leaks exactly when there is no table at all that the check accepts for it,"
-  pub leaks-exactly : Readable L xs → (words : ℕ) → rowCount L ≤ words
-      → Leaks (verdictOutcome L words xs) ↔ ((t : Table) → Accepts L xs t → ⊥)
-  -- "and confined exactly when there is one;": one of words for L labels
-  pub confined-exactly : Readable L xs → (words : ℕ) → rowCount L ≤ words
-      → Confined (verdictOutcome L words xs) ↔ ((t : Table) × Small L t × Accepts L xs t)
+  pub leaks-exactly : Readable L xs → (rows : ℕ) → rowCount L ≤ rows
+      → Leaks (verdictOutcome L rows xs) ↔ ((t : Table) → Accepts L xs t → ⊥)
+  -- "and confined exactly when there is one;": one of rows for L labels
+  pub confined-exactly : Readable L xs → (rows : ℕ) → rowCount L ≤ rows
+      → Confined (verdictOutcome L rows xs) ↔ ((t : Table) × Small L t × Accepts L xs t)
   -- "after confined the check accepts for it the lent table as the verdict left it."
   pub confined-left : Readable L xs → (t : Table) → rowCount L ≤ length t → Confined (verdictOutcome L (length t) xs)
       → Accepts L xs (verdictTable L xs t)

@@ -15,7 +15,7 @@ pub record Same (L M : ℕ) (xs : List ℕ) : Type 0 where
   -- the same records at the same positions
   pub records : readFile M xs .records ≡ readFile L xs .records
   -- the same outcome, lent a table of full size: confined or leaks, label and count
-  pub outcome : (words more : ℕ) → rowCount L ≤ words → rowCount M ≤ more → verdictOutcome M more xs ≡ verdictOutcome L words xs
+  pub outcome : (rows more : ℕ) → rowCount L ≤ rows → rowCount M ≤ more → verdictOutcome M more xs ≡ verdictOutcome L rows xs
   -- the same facts row by row, each row under its number in either table
   pub rows : (t u : Table) → rowCount L ≤ length t → rowCount M ≤ length u → (y : Row) → InTable L y
       → getD (verdictTable M xs u) (number M y) 0 ≡ getD (verdictTable L xs t) (number L y) 0

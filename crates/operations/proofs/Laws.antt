@@ -1,10 +1,10 @@
 -- The outcomes of verdict and check and the words that the verdict leaves, case by case as the operations meet them, in either edition. Assumes nothing.
-use mathlib.Core.Path.{_≡_, refl, sym, ap, ap₂, subst, _∙_}
+use mathlib.Core.Path.{_≡_, refl, sym, ap, ap₂, _∙_}
 use mathlib.Core.Bool.{Bool, true, false}
 use mathlib.Core.List.{List, _++_}
 use Prim.Native.Nat.{ℕ, _*_, _≤_, _<_}
 use native.Mathlib.Omega.{arith}
-use lib.ListN.{length, getD, take, drop}
+use lib.ListN.{length, getD, drop}
 use lib.Bits.{bitAnd}
 use lib.Count.{trailingZeros}
 use lib.Dec.{eqb}
@@ -12,7 +12,7 @@ use borrow.Author.Tests.{le-ltb, lt-ltb, eq-eqb, ne-eqb, eqb-false}
 use Rattle.rows.specs.Edition.{labels, words}
 use Rattle.rows.specs.Row.{rowCount}
 use Rattle.rows.specs.Run.{Words, roomFor, rowsOf, laid}
-use Rattle.rows.proofs.Run.{view-length, room-enough, laid-rows}
+use Rattle.rows.proofs.Run.{view-length, laid-rows}
 use Rattle.rules.specs.Table.{Table, facts}
 use Rattle.rules.specs.Gap.{gap}
 use Rattle.analysis.specs.Rules.{rules}
@@ -20,7 +20,7 @@ use Rattle.format.specs.Reading.{readFile, Readable}
 use Rattle.program.specs.Program.{programOf}
 use Rattle.analysis.specs.Verdict.{leastTable, heldForbidden}
 use Rattle.answer.specs.Outcome.{accepted, refused, holds}
-use Rattle.verdicts.specs.Verdict.{verdictOutcome, verdictTable, verdictWords, judged, forbiddenHeld, programIn}
+use Rattle.verdicts.specs.Verdict.{verdictOutcome, verdictWords, judged, forbiddenHeld, programIn}
 use Rattle.verdicts.specs.Check.{cleaned, checked, checkOutcome}
 use Rattle.verdicts.proofs.Accept.{admitted-readable}
 use Rattle.verdicts.proofs.Demand.{verdict-judged, table-left}

@@ -2,3 +2,4 @@
 pub mod Number
 pub mod Edition
 pub mod Run
+pub mod Examples

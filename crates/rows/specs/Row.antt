@@ -1,5 +1,5 @@
 -- The rows of the table, and the number of each in a table for L labels (document 01, "Table and sheet"). Rows are named here by
--- what they hold; only `number` knows the layout, and only it is to change with the number of labels. Assumes nothing.
+-- what they hold; only `number`, `rowCount` and `InTable` know the layout and depend on the number of labels. Assumes nothing.
 use Prim.Native.Nat.{ℕ, _+_, _*_, _<_}
 
 -- document 01's S(v), H(l,n), P(l) and T(k)
@@ -10,14 +10,14 @@ pub data Row : Type 0 where
   thrown : ℕ → Row  -- the labels thrown in scope k
 
 -- the number of a row: the variables first, then 32 rows for each label, then the chains, then the scopes;
--- for 64 labels the chains begin at 2304 and the scopes at 2368
+-- for 64 labels the chains begin at 2304 and the scopes at 2368, for 256 at 8448 and 8704
 abbrev pub number : ℕ → Row → ℕ
 number L (variable v) = v
 number L (property l n) = 256 + 32 * l + n
 number L (chain l) = 256 + 32 * L + l
 number L (thrown k) = 256 + 33 * L + k
 
--- how many rows there are; for 64 labels 2432
+-- how many rows there are; for 64 labels 2432, for 256 8960
 abbrev pub rowCount : ℕ → ℕ
 rowCount L = 256 + 34 * L
 

@@ -1,5 +1,5 @@
 // A set of labels as four words by value. `wide` says whether all four count (256 labels) or the first alone (64 labels); what stands in
-// the others then is of no matter, so that no function asks anything of a set. Each function branches on `wide` once.
+// the others then is of no matter, so that no function asks anything of a set. No function branches on `wide` more than once.
 ghost use mathlib.Core.Path.{_≡_};
 ghost use Prim.Native.Nat.{ℕ, _*_, _^_, _<_, _≤_};
 ghost use lib.Bits.{bitAnd};

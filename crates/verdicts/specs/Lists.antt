@@ -13,11 +13,11 @@ use Rattle.format.specs.Refusals.{BadFile}
 use Rattle.verdicts.specs.Verdict.{programIn}
 use Rattle.verdicts.specs.Check.{Lacks}
 
--- the verdict, lent a table of so many words, refuses the file with n at position `at`: "8 (position 0) if the lent table has fewer than 2,432
+-- the verdict, lent a table of so many rows, refuses the file with n at position `at`: "8 (position 0) if the lent table has fewer than 2,432
 -- words; 9 .."
-pub data VerdictRefuses (L : ℕ) (xs : List ℕ) (words n at : ℕ) : Type 0 where
-  table-short : words < rowCount L → n ≡ 8 → at ≡ 0 → VerdictRefuses L xs words n at
-  file-bad : rowCount L ≤ words → BadFile L xs n at → VerdictRefuses L xs words n at
+pub data VerdictRefuses (L : ℕ) (xs : List ℕ) (rows n at : ℕ) : Type 0 where
+  table-short : rows < rowCount L → n ≡ 8 → at ≡ 0 → VerdictRefuses L xs rows n at
+  file-bad : rowCount L ≤ rows → BadFile L xs n at → VerdictRefuses L xs rows n at
 
 -- one use of all rules would enlarge no row of the table
 abbrev pub NoneLacks : ℕ → List ℕ → Table → Type 0

@@ -16,9 +16,10 @@ use Rattle.program.specs.Program.{Program, Guest, programOf}
 use Rattle.analysis.specs.Verdict.{leastTable, heldForbidden}
 
 -- "8 (position 0) if the lent table has fewer than 2,432 words; 9 (position 0) if the file is longer than 32,768 bytes; then records in order ..
--- Then 7": what is refused of a table of so many words and of the file that was read as d, else a
+-- Then 7": what is refused of a table of so many rows, in the small edition a word each, and of the file that was read as d,
+-- else a
 abbrev pub admitted : {A : Type 0} → ℕ → ℕ → Reading → (ℕ → ℕ → A) → A → A
-admitted L words d refuse a = cond (ltb words (rowCount L)) (refuse 8 0) (cond (eqb (d .refusal) 0) a (refuse (d .refusal) (d .position)))
+admitted L rows d refuse a = cond (ltb rows (rowCount L)) (refuse 8 0) (cond (eqb (d .refusal) 0) a (refuse (d .refusal) (d .position)))
 
 -- the forbidden labels in the first guest's bag, row 1
 unfoldable pub forbiddenHeld : Table → List Guest → ℕ
@@ -45,13 +46,13 @@ judged L p =
 abbrev pub programIn : ℕ → List ℕ → Program
 programIn L xs = programOf (readFile L xs)
 
--- what the verdict says of a file, lent a table of so many words
+-- what the verdict says of a file, lent a table of so many rows
 unfoldable pub verdictOutcome : ℕ → ℕ → List ℕ → Outcome
 unfolding readFile programOf judged
-verdictOutcome L words xs =
+verdictOutcome L rows xs =
     let d = readFile L xs in
     let o = judged L (programOf d) in
-    admitted L words d refused o
+    admitted L rows d refused o
 
 -- "No refusal changes any word"; else "the verdict starts from an empty table of 2,432 words; words beyond stay untouched"
 unfoldable pub verdictTable : ℕ → List ℕ → Table → Table

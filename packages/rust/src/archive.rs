@@ -1,4 +1,4 @@
-//! The operations of the archive, as C calls them.
+//! The operations of the archives, as C calls them.
 
 pub type Verdict = unsafe extern "C" fn(file: *const u8, file_length: usize, table: *mut u64, table_length: usize) -> u64;
 pub type Check = unsafe extern "C" fn(file: *const u8, file_length: usize, table: *const u64, table_length: usize) -> u64;

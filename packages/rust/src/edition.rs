@@ -23,7 +23,7 @@ pub trait Edition: Operations {
     const TABLE_WORDS: usize = Self::ROWS * Self::ROW_WORDS;
 }
 
-/// The functions of the archive. Not to be named outside, so that there are no other editions.
+/// The functions of the archives. Not to be named outside, so that there are no other editions.
 pub trait Operations {
     const VERDICT: Verdict;
     const CHECK: Check;

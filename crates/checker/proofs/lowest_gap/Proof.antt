@@ -1,7 +1,5 @@
 -- `checker::lowest_gap` meets its contract. Assumes nothing.
 use mathlib.Core.Path.{sym, ap}
-use mathlib.Core.List.{List}
-use Prim.Native.Nat.{ℕ}
 use borrow.Author.Needs.{needs}
 use Rattle.format.specs.Sheet.{Sheet}
 use Rattle.checker.proofs.lowest_gap.Statement.{statement}

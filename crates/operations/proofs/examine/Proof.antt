@@ -6,7 +6,6 @@ use lib.Count.{trailingZeros}
 use lib.ListN.{length}
 use borrow.Author.Tests.{eqb-true}
 use Rattle.rows.specs.Edition.{labels}
-use Rattle.rows.specs.Row.{rowCount}
 use Rattle.format.specs.Sheet.{Sheet}
 use Rattle.format.specs.Reading.{readFile}
 use Rattle.answer.specs.Outcome.{refused, holds}
