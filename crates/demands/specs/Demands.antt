@@ -1,6 +1,7 @@
 -- The customer's demands (`demands.md`), in its words, as statements about the definitions that the contracts of the operations cite: what the
 -- verdict answers (`verdictOutcome`) and leaves in the lent table (`verdictTable`), what the check answers (`checkOutcome`), what the rules derive
--- (`Derives`), and the runs of the machine. L is the number of labels: Editions.antt says for which, and what it means for the words that a caller lends. Assumes nothing.
+-- (`Derives`), and the runs of the machine. L is the number of labels: Editions.antt says for which, and what it means for the words that a caller
+-- lends. Assumes nothing.
 use mathlib.Core.Path.{_≡_}
 use mathlib.Core.Logic.{_↔_, _⊎_}
 use mathlib.Core.List.{List}
