@@ -1,10 +1,10 @@
 -- What the statements of a readable file name: variables below 256, declared labels, names below 32; a scope is a declared label (the top level
 -- is label 0). Assumes nothing.
 use mathlib.Core.Path.{_≡_, refl, sym, subst, _∙_}
-use mathlib.Core.Logic.{_⊎_, inl, inr}
+use mathlib.Core.Logic.{inl, inr}
 use mathlib.Core.List.{List, [], _∷_, _++_, List·Memᴰ, List·Memᴰ·cases-cons, List·Memᴰ·not-nil, List·Memᴰ·head, List·Memᴰ·tail, List·Memᴰ·eq-of-singleton}
 use mathlib.Core.Bool.{Bool, true, false, cond, not, _&&_, _||_, true≢false}
-use Prim.Native.Nat.{ℕ, zero, suc, _-_, _<_, _≤_}
+use Prim.Native.Nat.{ℕ, zero, suc, _-_, _<_}
 use native.Mathlib.Omega.{arith}
 use lib.ListN.{getD, drop, replicate}
 use lib.Dec.{eqb, leb, ltb}
@@ -13,7 +13,7 @@ use Rattle.layout.specs.Layout.{Class, name, variable, fieldsOf, bodyLength}
 use Rattle.format.specs.Sheet.{Sheet, typeOf, ownerOf, known, declared}
 use Rattle.format.specs.Fields.{good, Fits}
 use Rattle.format.specs.Records.{Record, field}
-use Rattle.format.proofs.Tests.{and-first, and-second, or-true}
+use Rattle.format.proofs.Tests.{and-second, or-true}
 use Rattle.format.proofs.Fields.{fits-good}
 use Rattle.format.proofs.Effect.{not-equal, Variable, variable-of}
 use Rattle.format.proofs.Ready.{Made}
@@ -21,7 +21,9 @@ use Rattle.rules.specs.Rule.{chosen}
 use Rattle.rules.proofs.Labels.{chosen-passes}
 use Rattle.program.specs.Statement as say
 use Rattle.program.specs.Statement.{statementsOf}
-use Rattle.program.specs.Program.{placed, guestStatements, guestsStatements, hostStatements, guestsOf, namesOf, inClass}
+use Rattle.layout.specs.Key.{inside, outside, Key}
+use Rattle.layout.proofs.Keys.{key-name}
+use Rattle.program.specs.Program.{placed, guestStatements, guestsStatements, hostStatements, guestsOf, namesOf, inClass, outsideClass}
 
 abbrev pub Declared : Sheet → ℕ → Type 0
 Declared s l = declared s l ≡ true
@@ -60,14 +62,15 @@ stated-append s (a ∷ first) rest p q = (p .0, stated-append s first rest (p .1
 
 -- ---- a key
 
-pub key-names : (s : Sheet) (key : ℕ) → (key < 32) ⊎ (128 ≤ key) → Keyed s key
+pub key-names : (s : Sheet) (key : ℕ) → Key key → Keyed s key
 unfolding namesOf
-key-names s key k n m = go (ltb key 128) refl k (m)
+key-names s key k n m = go (ltb key inside) (ltb key outside) refl m
   where
-    go : (b : Bool) → ltb key 128 ≡ b → (key < 32) ⊎ (128 ≤ key) → List·Memᴰ n (cond b (key ∷ []) (chosen (inClass s (key - 128)) 32)) → n < 32
-    go true e (inl h) i = omega (arith, List·Memᴰ·eq-of-singleton i)
-    go true e (inr h) i = absurd (omega (arith, ltb-true key 128 e))
-    go false e _ i = chosen-passes (inClass s (key - 128)) 32 n i .0
+    go : (b c : Bool) → ltb key inside ≡ b
+        → List·Memᴰ n (cond b (key ∷ []) (cond c (chosen (inClass s (key - inside)) 32) (chosen (outsideClass s (key - outside)) 32))) → n < 32
+    go true c e i = omega (arith, List·Memᴰ·eq-of-singleton i, key-name key k (ltb-true key inside e))
+    go false true e i = chosen-passes (inClass s (key - inside)) 32 n i .0
+    go false false e i = chosen-passes (outsideClass s (key - outside)) 32 n i .0
 
 -- ---- good bytes
 
@@ -117,13 +120,6 @@ module _ (L : ℕ) (s : Sheet) (ps : List (ℕ × Record)) (m : Made L s ps) whe
   of-scope : (b : ℕ) → (eqb b 0 || (leb 5 b && eqb (typeOf s b) 2)) ≡ true → Declared s b
   of-scope b e = elim (or-true (eqb b 0) _ e) [ inl q ↦ subst (Declared s) (sym (eqb-true b 0 q)) top-declared | inr q ↦ of-function b q ]
 
-  of-key : (b : ℕ) → (ltb b 32 || (leb 128 b && leb b 135)) ≡ true → Keyed s b
-  of-key b e = key-names s b (go (or-true (ltb b 32) _ e))
-    where
-      go : (ltb b 32 ≡ true) ⊎ ((leb 128 b && leb b 135) ≡ true) → (b < 32) ⊎ (128 ≤ b)
-      go (inl q) = inl (ltb-true b 32 q)
-      go (inr q) = inr (leb-true 128 b (and-first _ _ q))
-
   of-name : (b : ℕ) → (eqb b 255 || ltb b 32) ≡ true → eqb b 255 ≡ false → b < 32
   of-name b e n = elim (or-true (eqb b 255) _ e) [ inl q ↦ absurd (true≢false (sym q ∙ n)) | inr q ↦ ltb-true b 32 q ]
 
@@ -171,9 +167,9 @@ module _ (L : ℕ) (s : Sheet) (ps : List (ℕ × Record)) (m : Made L s ps) whe
       (by-kind P k 8 _ _ (λ e. let g = fine 8 e in ((of-global L s ps m _ (g 0 (omega arith)), of-host L s ps m _ (g 1 (omega arith))), tt))
       (by-kind P k 16 _ _ (λ e. let g = fine 16 e in ((scope-at _ (g 0 (omega arith)), var _ (g 1 (omega arith)), var _ (g 2 (omega arith))), tt))
       (by-kind P k 17 _ _ (λ e. let g = fine 17 e in
-      ((scope-at _ (g 0 (omega arith)), var _ (g 1 (omega arith)), var _ (g 2 (omega arith)), of-key L s ps m _ (g 3 (omega arith)), plain _ (g 4 (omega arith))), tt))
+      ((scope-at _ (g 0 (omega arith)), var _ (g 1 (omega arith)), var _ (g 2 (omega arith)), key-names s _ (g 3 (omega arith)), plain _ (g 4 (omega arith))), tt))
       (by-kind P k 18 _ _ (λ e. let g = fine 18 e in
-      ((scope-at _ (g 0 (omega arith)), var _ (g 1 (omega arith)), of-key L s ps m _ (g 2 (omega arith)), var _ (g 3 (omega arith))), tt))
+      ((scope-at _ (g 0 (omega arith)), var _ (g 1 (omega arith)), key-names s _ (g 2 (omega arith)), var _ (g 3 (omega arith))), tt))
       (by-kind P k 19 _ _ (λ e. let g = fine 19 e in ((scope-at _ (g 0 (omega arith)), var _ (g 1 (omega arith)), of-data L s ps m _ (g 2 (omega arith))), tt))
       (by-kind P k 20 _ _ (λ e. let g = fine 20 e in
       ((scope-at _ (g 0 (omega arith)), var _ (g 1 (omega arith)), of-function L s ps m _ (g 2 (omega arith)), plain _ (g 3 (omega arith))), tt))
@@ -248,7 +244,7 @@ module _ (L : ℕ) (s : Sheet) (ps : List (ℕ × Record)) (m : Made L s ps) whe
   guest-stated =
       let g = guest-declared L s ps m in
       let b : 1 < 256 = omega arith in
-      let key = key-names s 128 (inr (omega arith)) in
+      let key = key-names s inside refl in
       ((g, b, g, g), ((g, b, b, key, g), ((g, b, key, b), ((g, b, b, b, six), ((g, b, b, b, g, six), ((g, b), ((g, b), ((g, b), tt))))))))
     where
       below : (n : ℕ) → AllBelow (replicate n 1)

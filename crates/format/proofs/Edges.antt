@@ -61,8 +61,9 @@ pub bad-labels :
 unfolding saidOf
 bad-labels = refl
 
--- 5: keys 31 and 135 are good, 32 and 136 are not
-pub bad-keys : Says (load 31 ∷ load 32 ∷ load 135 ∷ load 136 ∷ []) ((0, 10) ∷ (5, 4) ∷ (0, 10) ∷ (5, 4) ∷ [])
+-- 5: keys 31, 128 and 143 are good, 32, 127 and 144 are not (request 01: "136 now reads and 144 is refused 5")
+pub bad-keys : Says (load 31 ∷ load 32 ∷ load 127 ∷ load 128 ∷ load 135 ∷ load 136 ∷ load 143 ∷ load 144 ∷ [])
+    ((0, 10) ∷ (5, 4) ∷ (5, 4) ∷ (0, 10) ∷ (0, 10) ∷ (0, 10) ∷ (0, 10) ∷ (5, 4) ∷ [])
 unfolding saidOf
 bad-keys = refl
 

@@ -1,7 +1,15 @@
--- What a test that is made of two tests says. Assumes nothing.
+-- What a test that is made of two tests says, and one turned round. Assumes nothing.
 use mathlib.Core.Path.{_≡_, refl, sym, _∙_}
 use mathlib.Core.Logic.{_⊎_, inl, inr}
-use mathlib.Core.Bool.{Bool, true, false, _&&_, _||_, true≢false}
+use mathlib.Core.Bool.{Bool, true, false, not, _&&_, _||_, true≢false}
+
+pub untrue : (a : Bool) → (a ≡ true → ⊥) → not a ≡ true
+untrue true f = absurd (f refl)
+untrue false f = refl
+
+pub not-both : (a : Bool) → not a ≡ true → a ≡ true → ⊥
+not-both true e f = true≢false (sym e)
+not-both false e f = true≢false (sym f)
 
 pub and-first : (a b : Bool) → (a && b) ≡ true → a ≡ true
 and-first true b e = refl

@@ -7,9 +7,9 @@ use mathlib.Core.Bool.{Bool, true, cond}
 use Prim.Native.Nat.{ℕ, _+_, _-_, _*_, _/_, _%_, _^_, _<_}
 use lib.ListN.{getD}
 use lib.Dec.{ltb}
-use Rattle.words.specs.Words.{bit}
+use Rattle.words.specs.Words.{bit, difference}
 use Rattle.rows.specs.Edition.{words}
-use Rattle.rows.specs.Row.{Key}
+use Rattle.layout.specs.Key.{inside, outside, Key}
 use Rattle.format.specs.Sheet.{builtIn}
 use Rattle.rules.specs.Table.{Table, Has}
 use Rattle.program.specs.Program.{Program, namesOf, isFunction, returnsOf}
@@ -22,9 +22,19 @@ functionsIn wide host = number (words wide) host 0
 abbrev pub builtInsIn : Bool → List ℕ → ℕ
 builtInsIn wide host = number (words wide) host 4
 
+-- the names of a class, of the array; every name
+abbrev pub classIn : List ℕ → ℕ → ℕ
+classIn host c = getD host (8 + c) 0
+
+abbrev pub everyName : ℕ
+everyName = 2 ^ 32 - 1
+
 -- the names of a key as a word: bit n for name n
 abbrev pub namesIn : List ℕ → ℕ → ℕ
-namesIn host key = cond (ltb key 128) (2 ^ key) (getD host (8 + (key - 128)) 0)
+namesIn host key =
+    cond (ltb key inside) (2 ^ key)
+    (cond (ltb key outside) (classIn host (key - inside))
+    (difference everyName (classIn host (key - outside))))
 
 -- the four arrays of what functions hand back, for 64 functions each: of every function four words, the variables
 pub record Returns : Type 0 where

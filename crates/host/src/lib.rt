@@ -1,6 +1,6 @@
 // What the engine goes by beside the table, in an array of 16 words: the labels of functions, those of built-in objects, the names of each class.
 ghost use mathlib.Core.Path.{_≡_};
-ghost use Rattle.rows.specs.Row.{Key};
+ghost use Rattle.layout.specs.Key.{Key};
 ghost use Rattle.sets.specs.Value.{value};
 ghost use Rattle.host.specs.Lays.{functionsIn, builtInsIn, namesIn};
 
@@ -26,14 +26,20 @@ pub fn built_ins(host: &[u64; 16], wide: bool) -> Set
     lent::row(host, BUILT_INS, wide, 0)
 }
 
-// The names of a key, as a word: a name, or 128 + c for all names of class c.
+// Bit n for each name n.
+const EVERY_NAME: u64 = 0xffffffff;
+
+// The names of a key, as a word.
 pub fn names(host: &[u64; 16], key: u8) -> u64
     requires { ⌜ Key key ⌝ }
     ensures { λ r. ⌜ r ≡ namesIn (now (host .entry)) key ⌝ }
 {
-    let k = key as usize;
-    if k < 128 {
-        return words::single(k);
+    if key < layout::INSIDE {
+        return words::single(key as usize);
     }
-    host[CLASSES + (k - 128)]
+    if key < layout::OUTSIDE {
+        return host[CLASSES + ((key - layout::INSIDE) as usize)];
+    }
+    let class = host[CLASSES + ((key - layout::OUTSIDE) as usize)];
+    words::without(EVERY_NAME, class)
 }

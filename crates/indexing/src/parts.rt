@@ -81,19 +81,10 @@ pub fn chain(t: &[u64], wide: bool, l: u8) -> Set
     lent::row(t, 0, wide, Label(l).chain(wide))
 }
 
-// Where `host` has the names of the classes.
-const CLASSES: usize = 8;
-
 // The names that a key stands for.
 fn names_of(host: &[u64; 16], key: u8) -> u64 {
-    let k = place_of(key);
-    if k < 32 {
-        return words::single(k);
-    }
-    if 128 <= k {
-        if k < 136 {
-            return host[CLASSES + (k - 128)];
-        }
+    if layout::is_key(key) {
+        return host::names(host, key);
     }
     0
 }

@@ -116,7 +116,7 @@ pub first-fits : (wide : Bool) → 17 ≤ pairCount wide
 first-fits true = omega arith
 first-fits false = omega arith
 
-pub names-fit : (wide : Bool) → not wide ≡ true → 64 ≤ pairCount wide
+pub names-fit : (wide : Bool) → not wide ≡ true → 72 ≤ pairCount wide
 names-fit true e = never e
 names-fit false e = omega arith
 
@@ -130,15 +130,15 @@ forgets-first {before} {after} true e c q j =
     ]
 forgets-first false e c q j = never (sym e)
 
--- where there is room for 128, those of single names too
-pub forgets-names : {before between after : List ℕ} (wide : Bool) → Cleared wide 0 17 before between → Cleared wide 32 64 between after → (q : ℕ)
+-- where there is room for 128, those of single names and of the names outside a class too
+pub forgets-names : {before between after : List ℕ} (wide : Bool) → Cleared wide 0 17 before between → Cleared wide 32 72 between after → (q : ℕ)
     → Forgets wide before after q
-forgets-names {before} {between} {after} wide c d q = go (decLt q 17) (decLt q 32) (decLt q 64)
+forgets-names {before} {between} {after} wide c d q = go (decLt q 17) (decLt q 32) (decLt q 72)
   where
     stays : Stays wide before between q → Stays wide between after q → Stays wide before after q
     stays x y = (y .0 ∙ x .0, y .1 ∙ x .1)
 
-    go : Dec (q < 17) → Dec (q < 32) → Dec (q < 64) → Forgets wide before after q
+    go : Dec (q < 17) → Dec (q < 32) → Dec (q < 72) → Forgets wide before after q
     go (yes h) _ _ =
         let z = c .empty q (omega arith) h in
         let k = d .below q (omega arith) in

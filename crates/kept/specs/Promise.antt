@@ -11,6 +11,7 @@ use lib.Dec.{ltb}
 use Rattle.words.specs.Words.{bit}
 use Rattle.rows.specs.Edition.{labels}
 use Rattle.rows.specs.Row.{number, property, chain, thrown}
+use Rattle.layout.specs.Key.{inside, outside}
 use Rattle.rules.specs.Table.{Table, Has}
 use Rattle.program.specs.Program.{Program, namesOf, returnsOf}
 use Rattle.lent.specs.Table.{tableAt}
@@ -28,19 +29,21 @@ pub data Slot : Type 0 where
   stored : ℕ → Slot  -- spread: the properties of labels under a key
   unused : Slot
 
--- the slot of a pair: where there is room for 32 pairs only, those of single names other than 1, 2 and 3 are left out
+-- the slot of a pair: where there is room for 32 pairs only, those of the names outside a class and of single names other than 1, 2 and 3 are left out
 unfoldable pub slotOf : ℕ → Slot
 slotOf q =
     cond (ltb q 4) chains
     (cond (ltb q 5) throws
     (cond (ltb q 6) handed
-    (cond (ltb q 14) (under (q + 122))
+    (cond (ltb q 14) (under (inside + (q - 6)))
     (cond (ltb q 17) (under (q - 13))
     (cond (ltb q 24) (input (q - 17))
-    (cond (ltb q 32) (stored (q + 104))
+    (cond (ltb q 32) (stored (inside + (q - 24)))
     (cond (ltb q 64) (under (q - 32))
-    (cond (ltb q 96) (stored (q - 64))
-    unused))))))))
+    (cond (ltb q 72) (under (outside + (q - 64)))
+    (cond (ltb q 80) (stored (outside + (q - 72)))
+    (cond (ltb q 112) (stored (q - 80))
+    unused))))))))))
 
 -- what label l tells in table t
 abbrev pub Tells : Bool → Program → Slot → Table → ℕ → ℕ → Type 0

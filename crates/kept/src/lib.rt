@@ -4,6 +4,7 @@ ghost use mathlib.Core.Path.{_≡_};
 ghost use mathlib.Core.Bool.{true};
 ghost use mathlib.Core.List.{List};
 ghost use Prim.Native.Nat.{ℕ, _≤_, _<_};
+ghost use Rattle.layout.specs.Key.{Key};
 ghost use Rattle.sets.specs.Value.{value};
 ghost use Rattle.program.specs.Program.{Program};
 ghost use Rattle.kept.specs.Pairs.{pairCount, keptSet, keptWith, Refreshed, Cleared, Asks, Answers, Leaves, Learns};
@@ -190,7 +191,7 @@ pub fn forget(keeps: &mut [u64; 256], wide: bool)
 {
     clear(keeps, wide, 0, 17);
     if !wide {
-        clear(keeps, wide, 32, 64);
+        clear(keeps, wide, 32, 72);
     }
 }
 
@@ -205,14 +206,17 @@ pub const INPUTS: usize = 17;
 
 // The pair for the properties under a key.
 pub fn under_pair(key: u8) -> usize
-    requires { ⌜ (key < 136) × (key < 128 → key < 32) ⌝ }
+    requires { ⌜ Key key ⌝ }
     ensures { λ r. ⌜ slotOf r ≡ under key ⌝ }
     ensures bound { λ r. ⌜ r < 128 ⌝ }
 {
-    let k = key as usize;
-    if 128 <= k {
-        return k - 122;
+    if layout::OUTSIDE <= key {
+        return 64 + ((key - layout::OUTSIDE) as usize);
     }
+    if layout::INSIDE <= key {
+        return 6 + ((key - layout::INSIDE) as usize);
+    }
+    let k = key as usize;
     if k == 0 {
         return 32;
     }
@@ -224,13 +228,15 @@ pub fn under_pair(key: u8) -> usize
 
 // The pair for values that are stored under a key.
 pub fn stored_pair(key: u8) -> usize
-    requires { ⌜ (key < 136) × (key < 128 → key < 32) ⌝ }
+    requires { ⌜ Key key ⌝ }
     ensures { λ r. ⌜ slotOf r ≡ stored key ⌝ }
     ensures bound { λ r. ⌜ r < 128 ⌝ }
 {
-    let k = key as usize;
-    if 128 <= k {
-        return k - 104;
+    if layout::OUTSIDE <= key {
+        return 72 + ((key - layout::OUTSIDE) as usize);
     }
-    64 + k
+    if layout::INSIDE <= key {
+        return 24 + ((key - layout::INSIDE) as usize);
+    }
+    80 + (key as usize)
 }

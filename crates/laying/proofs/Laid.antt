@@ -1,6 +1,6 @@
 -- The array `host` once its words are stored is that of the program. Assumes nothing.
 use mathlib.Core.Path.{_≡_, refl, sym, ap, _∙_}
-use mathlib.Core.Logic.{_↔_, inl}
+use mathlib.Core.Logic.{_↔_, inl, inr}
 use mathlib.Core.List.{List, [], _∷_, List·Memᴰ, List·Memᴰ·head, List·Memᴰ·eq-of-singleton}
 use mathlib.Core.Bool.{Bool, true, false, cond}
 use Prim.Native.Nat.{ℕ, _+_, _-_, _^_, _≤_, _<_}
@@ -9,21 +9,24 @@ use native.Mathlib.Omega.{arith}
 use lib.ListN.{getD, take, length-take, List·getD-eq-default}
 use lib.Seq.{getD-take}
 use lib.Dec.{eqb, ltb}
-use borrow.Author.Tests.{ltb-false, eqb-true}
-use Rattle.words.specs.Words.{bit}
-use Rattle.words.proofs.Bits.{on-single, single-only}
+use borrow.Author.Tests.{ltb-true, ltb-false, eqb-true}
+use Rattle.words.specs.Words.{bit, difference}
+use Rattle.words.proofs.Laws.{ones-on}
+use Rattle.words.proofs.Bits.{on-single, single-only, on-below, on-difference, difference-off, difference-on}
 use Rattle.rows.specs.Edition.{labels, words}
-use Rattle.rows.specs.Row.{Key}
+use Rattle.layout.specs.Key.{inside, outside, Key}
+use Rattle.layout.proofs.Keys.{key-below}
 use Rattle.rules.specs.Rule.{chosen}
 use Rattle.rules.proofs.Labels.{chosen-passes, passes-chosen}
-use Rattle.program.specs.Program.{Program, inClass, namesOf}
+use Rattle.format.proofs.Tests.{untrue, not-both}
+use Rattle.program.specs.Program.{Program, inClass, outsideClass, namesOf}
 use Rattle.rows.specs.Run.{number}
 use Rattle.rows.proofs.Run.{number-same}
 use Rattle.lent.specs.Table.{place}
 use Rattle.lent.specs.Stored.{Stored}
-use Rattle.host.specs.Lays.{functionsIn, builtInsIn, namesIn, Lays}
+use Rattle.host.specs.Lays.{functionsIn, builtInsIn, classIn, everyName, namesIn, Lays}
 use Rattle.host.proofs.Rows.{row-first}
-use Rattle.laying.specs.Holds.{Holds, hasByte, ofClass, Classes}
+use Rattle.laying.specs.Holds.{Holds, hasByte, Classes}
 
 few : (wide : Bool) → words wide ≤ 4
 few true = omega arith
@@ -53,23 +56,44 @@ module _ (wide : Bool) (types flags : List ℕ) {masks t u v w : List ℕ} {fs b
       ∙ ap (λ (i : ℕ). number (words wide) v i) (sym (row-first wide 4)) ∙ second .here
 
   module _ (p : Program) (masks-are : p .sheet .masks ≡ masks) where
-    -- the names of a class
-    class-named : (c n : ℕ) → c < 8 → (bit (getD w (8 + c) 0) n ≡ 1) ↔ List·Memᴰ n (chosen (inClass (p .sheet) c) 32)
+    -- the names of a class, and those outside it
+    in-class : (c n : ℕ) → c < 8 → (bit (classIn w c) n ≡ 1) ↔ ((n < 32) × (inClass (p .sheet) c n ≡ true))
     unfolding bit
-    class-named c n h =
-        let e : (ofClass masks c n ≡ true) ↔ (inClass (p .sheet) c n ≡ true) = rw masks-are ((λ q. q), (λ q. q)) in (
-          λ o. (let q = third .names c h n .0 o in passes-chosen (inClass (p .sheet) c) 32 n (q .0) (e .0 (q .1))),
-          λ i. (let q = chosen-passes (inClass (p .sheet) c) 32 n i in third .names c h n .1 (q .0, e .1 (q .1))),
-        )
+    in-class c n h = rw masks-are (third .names c h n)
+
+    class-named : (c n : ℕ) → c < 8 → (bit (classIn w c) n ≡ 1) ↔ List·Memᴰ n (chosen (inClass (p .sheet) c) 32)
+    class-named c n h = (
+      λ o. (let q = in-class c n h .0 o in passes-chosen (inClass (p .sheet) c) 32 n (q .0) (q .1)),
+      λ i. in-class c n h .1 (chosen-passes (inClass (p .sheet) c) 32 n i),
+    )
+
+    outside-named : (c n : ℕ) → c < 8 → (bit (difference everyName (classIn w c)) n ≡ 1) ↔ List·Memᴰ n (chosen (outsideClass (p .sheet) c) 32)
+    outside-named c n h = (into, from)
+      where
+        into : bit (difference everyName (classIn w c)) n ≡ 1 → List·Memᴰ n (chosen (outsideClass (p .sheet) c) 32)
+        into o =
+            let i = on-below 32 everyName n (omega arith) (on-difference everyName (classIn w c) n o) in
+            passes-chosen (outsideClass (p .sheet) c) 32 n i
+            (untrue (inClass (p .sheet) c n) (λ e. difference-off everyName (classIn w c) n o (in-class c n h .1 (i, e))))
+
+        from : List·Memᴰ n (chosen (outsideClass (p .sheet) c) 32) → bit (difference everyName (classIn w c)) n ≡ 1
+        from i =
+            let q = chosen-passes (outsideClass (p .sheet) c) 32 n i in
+            elim (difference-on everyName (classIn w c) n (ones-on 32 n (q .0))) [
+              | inl o ↦ o
+              | inr o ↦ absurd (not-both (inClass (p .sheet) c n) (q .1) (in-class c n h .0 o .1))
+            ]
 
     named : (key n : ℕ) → Key key → (bit (namesIn w key) n ≡ 1) ↔ List·Memᴰ n (namesOf (p .sheet) key)
     unfolding namesOf
-    named key n k = go (ltb key 128) refl
+    named key n k = go (ltb key inside) (ltb key outside) refl refl
       where
-        go : (s : Bool) → ltb key 128 ≡ s
-            → (bit (cond s (2 ^ key) (getD w (8 + (key - 128)) 0)) n ≡ 1) ↔ List·Memᴰ n (cond s (key ∷ []) (chosen (inClass (p .sheet) (key - 128)) 32))
-        go true e = (λ o. List·Memᴰ·head (single-only key n o), λ i. rw (List·Memᴰ·eq-of-singleton i) (on-single key))
-        go false e = class-named (key - 128) n (omega (arith, ltb-false key 128 e, k .0))
+        go : (a b : Bool) → ltb key inside ≡ a → ltb key outside ≡ b
+            → (bit (cond a (2 ^ key) (cond b (classIn w (key - inside)) (difference everyName (classIn w (key - outside))))) n ≡ 1)
+            ↔ List·Memᴰ n (cond a (key ∷ []) (cond b (chosen (inClass (p .sheet) (key - inside)) 32) (chosen (outsideClass (p .sheet) (key - outside)) 32)))
+        go true b e f = (λ o. List·Memᴰ·head (single-only key n o), λ i. rw (List·Memᴰ·eq-of-singleton i) (on-single key))
+        go false true e f = class-named (key - inside) n (omega (arith, ltb-false key inside e, ltb-true key outside f))
+        go false false e f = outside-named (key - outside) n (omega (arith, ltb-false key outside f, key-below key k))
 
     pub lays : p .sheet .types ≡ take (labels wide) types → p .sheet .flags ≡ take (labels wide) flags → Lays wide p w
     lays types-are flags-are =

@@ -22,7 +22,7 @@ pub data Class : Type 0 where
   declaredVariable : Class  -- a declared variable
   globalVariable : Class  -- a declared variable whose owner is scope 0
   variableName : Class  -- a name, or 255 for none
-  key : Class  -- a name, or 128 + c for all names of class c, 0 to 7
+  key : Class  -- a name, 128 + c for all names of class c, or 136 + c for all names outside it, c from 0 to 7
 
 -- a row for each number from 0 to 26; no record has the kind of an empty row
 abbrev pub kinds : List (List Class)

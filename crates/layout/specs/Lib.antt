@@ -1,2 +1,3 @@
--- The table of record kinds.
+-- The table of record kinds, and which bytes are keys.
 pub mod Layout
+pub mod Key

@@ -3,6 +3,7 @@
 // once and walks them.
 ghost use mathlib.Core.Path.{_≡_};
 ghost use Rattle.layout.specs.Layout.{bodyLength, bodyLengths, fieldCodes};
+ghost use Rattle.layout.specs.Key.{isKey};
 
 // How long the body of each kind is, 0 where there is no such kind.
 const LENGTHS: [u8; 27] = [
@@ -95,4 +96,23 @@ pub fn body_length(kind: u8) -> usize
         return ((HIGH_LENGTHS >> (4 * (k - 16))) % 16) as usize;
     }
     0
+}
+
+// The key of class 0, every name; those of classes 1 to 7 follow.
+pub const INSIDE: u8 = 128;
+
+// The key of the names outside class 0, none; those outside classes 1 to 7 follow.
+pub const OUTSIDE: u8 = 136;
+
+// The first byte behind the keys.
+const KEYS_END: u8 = 144;
+
+// Whether the byte is a key.
+pub fn is_key(b: u8) -> bool
+    ensures { λ r. ⌜ r ≡ isKey b ⌝ }
+{
+    if b < INSIDE {
+        return b < 32;
+    }
+    b < KEYS_END
 }

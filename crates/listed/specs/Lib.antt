@@ -3,3 +3,5 @@ pub mod Files
 pub mod Listed
 pub mod MoreFiles
 pub mod More
+pub mod OutsideFiles
+pub mod Outside

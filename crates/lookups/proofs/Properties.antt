@@ -1,20 +1,19 @@
 -- Loads and stores: what their uses come to. Assumes nothing.
-use mathlib.Core.Path.{_≡_, refl, subst}
+use mathlib.Core.Path.{_≡_, subst}
 use mathlib.Core.Logic.{_⊎_, inl, inr}
-use mathlib.Core.Bool.{Bool, true, false, not, _||_}
+use mathlib.Core.Bool.{Bool, true, not, _||_}
 use mathlib.Core.List.{List}
 use Prim.Native.Nat.{ℕ, _^_, _<_}
-use native.Mathlib.Omega.{arith}
 use lib.ListN.{getD}
 use Rattle.words.specs.Words.{union, difference}
-use Rattle.words.proofs.Laws.{bit-difference, bit-small}
-use Rattle.words.proofs.Bits.{On, on-union, on-left, on-right, on-single, single-only, on-difference, difference-on}
+use Rattle.words.proofs.Bits.{On, on-union, on-left, on-right, on-single, single-only, on-difference, difference-off, difference-on}
 use Rattle.rows.specs.Edition.{labels}
 use Rattle.rows.specs.Row.{number, property, chain, variable}
 use Rattle.rules.specs.Table.{Table, Has, Within}
 use Rattle.rules.specs.Rule.{Rule, over, include}
 use Rattle.rules.specs.Told.{Told}
 use Rattle.format.specs.Sheet.{builtIn}
+use Rattle.format.proofs.Tests.{untrue, not-both}
 use Rattle.program.specs.Program.{Program, namesOf}
 use Rattle.analysis.specs.Rules.{looking, loading, storing}
 use Rattle.uses.specs.Use.{Apart, tableOf, tells, giving, Used}
@@ -59,17 +58,6 @@ module _ {wide : Bool} {o : ℕ} {p : Program} (y x w key : ℕ) where
 
 -- ---- stores
 
-difference-off : (a b l : ℕ) → On (difference a b) l → On b l → ⊥
-difference-off a b l h i = omega (arith, bit-difference a b l, bit-small a l)
-
-not-built-in : (b : Bool) → (b ≡ true → ⊥) → not b ≡ true
-not-built-in true f = absurd (f refl)
-not-built-in false f = refl
-
-built-in-not : (b : Bool) → not b ≡ true → b ≡ true → ⊥
-built-in-not true e f = let z : _≡_ {A = ℕ} 0 1 = cc in omega arith
-built-in-not false e f = let z : _≡_ {A = ℕ} 0 1 = cc in omega arith
-
 module _ {wide : Bool} {o : ℕ} {p : Program} {host : List ℕ} (x a key : ℕ) where
   pub store-applies : {s held fixed value : ℕ} {t u keeps kept : List ℕ} {grew : Bool} → Apart wide o → Lays wide p host → held ≡ getD (tableOf wide t) x 0
       → fixed ≡ builtInsIn wide host → s ≡ difference held fixed → value ≡ getD (tableOf wide t) a 0
@@ -86,7 +74,7 @@ module _ {wide : Bool} {o : ℕ} {p : Program} {host : List ℕ} (x a key : ℕ)
             m,
             i x m (rw is-held at (on-difference held fixed m e)),
             told-when (labels wide) b (body m) (not (builtIn (p .sheet) m)) r l
-                (not-built-in (builtIn (p .sheet) m) (λ g. difference-off held fixed m e (rw is-fixed (lays .built-ins m .1 g))))
+                (untrue (builtIn (p .sheet) m) (λ g. difference-off held fixed m e (rw is-fixed (lays .built-ins m .1 g))))
                 (h .2 .0 .0, h .2 .0 .1, (positive (h .2 .0 .2) (h .2 .1), h .2 .0 .2, i a l (rw is-value at (h .2 .2)))),
           )
         where
@@ -104,4 +92,4 @@ module _ {wide : Bool} {o : ℕ} {p : Program} {host : List ℕ} (x a key : ℕ)
 
           kept : On (difference held fixed) (h .0) ⊎ On fixed (h .0) → not (builtIn (p .sheet) (h .0)) ≡ true → On (difference held fixed) (h .0)
           kept (inl e) f = e
-          kept (inr e) f = absurd (built-in-not (builtIn (p .sheet) (h .0)) f (lays .built-ins (h .0) .0 (rw is-fixed at e)))
+          kept (inr e) f = absurd (not-both (builtIn (p .sheet) (h .0)) f (lays .built-ins (h .0) .0 (rw is-fixed at e)))

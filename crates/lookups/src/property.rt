@@ -2,7 +2,7 @@
 ghost use Prim.Native.Nat.{_<_};
 ghost use lib.ListN.{length};
 ghost use Rattle.rows.specs.Edition.{labels};
-ghost use Rattle.rows.specs.Row.{Key};
+ghost use Rattle.layout.specs.Key.{Key};
 ghost use Rattle.program.specs.Program.{Program};
 ghost use Rattle.analysis.specs.Rules.{loading, storing};
 ghost use Rattle.uses.specs.Use.{Lent, tells};

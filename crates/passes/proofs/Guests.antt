@@ -6,7 +6,7 @@ use Prim.Native.Nat.{ℕ, zero, suc, _+_, _<_}
 use native.Mathlib.Omega.{arith}
 use lib.ListN.{take}
 use Rattle.rows.specs.Edition.{labels}
-use Rattle.rows.specs.Row.{Key}
+use Rattle.layout.specs.Key.{inside, Key}
 use Rattle.rules.specs.Rule.{Rule, none, both, every}
 use Rattle.records.specs.declared.Statement.{Statement}
 use Rattle.records.specs.Say.{ruleBy, InBounds}
@@ -49,8 +49,8 @@ pub record Said (i : ℕ) (s : Statement) : Type 0 where
 pub said-at : {i : ℕ} (j : ℕ) (s : Statement) → i ≡ j → Said j s → ((p : Program) → ruleBy p s ≡ both (ruleOf p (guestStatement i)) none) × ((wide : Bool) → InBounds (labels wide) s)
 said-at j s e h = rw e (h .rule, h .bounded)
 
-pub every-name : Key 128
-every-name = (omega arith, λ i. omega arith)
+pub every-name : Key inside
+every-name = refl
 
 -- one statement more
 pub guest-turn : {wide : Bool} {o : ℕ} {t u v keeps kept left : List ℕ} {a b : Bool} (p : Program) (i : ℕ) (s : Statement) → i < 8 → Apart wide o

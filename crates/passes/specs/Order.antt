@@ -6,6 +6,7 @@ use Prim.Native.Nat.{ℕ, zero, suc}
 use lib.ListN.{take, replicate}
 use Rattle.rows.specs.Edition.{labels}
 use Rattle.rows.specs.Row.{chain}
+use Rattle.layout.specs.Key.{inside}
 use Rattle.rules.specs.Rule.{Rule, give, over, every, _also_}
 use Rattle.format.specs.Reading.{readFile}
 use Rattle.program.specs.Statement as say
@@ -19,13 +20,13 @@ use Rattle.shared.specs.Apply.{Applies}
 
 -- guest 3, whatever is forbidden to it
 abbrev pub guestThree : ℕ → Guest
-guestThree forbidden = record { label = 3; bag = say.bag; key = 128; forbidden = forbidden }
+guestThree forbidden = record { label = 3; bag = say.bag; key = inside; forbidden = forbidden }
 
 -- its statements, one by one: make function, load, store, call, new, return, throw, catch
 abbrev pub guestStatement : ℕ → say.Statement
 guestStatement zero = say.makeFunction 3 1 3 3
-guestStatement (suc zero) = say.load 3 1 1 128 3
-guestStatement (suc (suc zero)) = say.store 3 1 128 1
+guestStatement (suc zero) = say.load 3 1 1 inside 3
+guestStatement (suc (suc zero)) = say.store 3 1 inside 1
 guestStatement (suc (suc (suc zero))) = say.call 3 1 1 1 (replicate 6 1)
 guestStatement (suc (suc (suc (suc zero)))) = say.new 3 1 1 1 3 (replicate 6 1)
 guestStatement (suc (suc (suc (suc (suc zero))))) = say.return 3 1

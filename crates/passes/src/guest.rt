@@ -23,7 +23,7 @@ const GUEST: Label = Label(3);
 
 const BAG: Var = Var(1);
 
-const EVERY_NAME: u8 = 128;
+const EVERY_NAME: u8 = layout::INSIDE;
 
 // A call of the guest: its bag in every place.
 fn guest_site() -> Site

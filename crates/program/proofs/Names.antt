@@ -1,9 +1,16 @@
 -- The names of a key, computed. Assumes nothing.
 use mathlib.Core.Path.{_≡_, refl}
-use mathlib.Core.List.{List, [], _∷_, map}
-use Prim.Native.Nat.{ℕ}
+use mathlib.Core.Logic.{_↔_}
+use mathlib.Core.List.{List, [], _∷_, map, List·Memᴰ}
+use Prim.Native.Nat.{ℕ, _+_, _-_, _<_}
+use native.Mathlib.Omega.{arith}
+use borrow.Author.Tests.{le-ltb, lt-ltb}
+use Rattle.layout.specs.Key.{inside, outside}
+use Rattle.format.specs.Sheet.{Sheet}
+use Rattle.format.proofs.Tests.{untrue, not-both}
 use Rattle.rules.specs.Rule.{chosen}
-use Rattle.program.specs.Program.{namesOf}
+use Rattle.rules.proofs.Labels.{chosen-passes, passes-chosen}
+use Rattle.program.specs.Program.{inClass, outsideClass, namesOf}
 use Rattle.program.proofs.File.{name, reading}
 
 -- name 4 is of class 1, name 9 of classes 1 and 3, name 31 of classes 3 and 7
@@ -14,6 +21,37 @@ file = name 4 3 ∷ name 9 11 ∷ name 31 137 ∷ []
 pub class-names : map (namesOf (reading file .sheet)) (129 ∷ 130 ∷ 131 ∷ 135 ∷ []) ≡ (4 ∷ 9 ∷ []) ∷ [] ∷ (9 ∷ 31 ∷ []) ∷ (31 ∷ []) ∷ []
 unfolding reading namesOf chosen
 class-names = refl
+
+-- "all names outside class c", "so 136 means no name"
+pub outside-names : map (namesOf (reading file .sheet)) (136 ∷ 137 ∷ 139 ∷ 143 ∷ []) ≡
+    []
+    ∷ (0 ∷ 1 ∷ 2 ∷ 3 ∷ 5 ∷ 6 ∷ 7 ∷ 8 ∷ 10 ∷ 11 ∷ 12 ∷ 13 ∷ 14 ∷ 15 ∷ 16 ∷ 17 ∷ 18 ∷ 19 ∷ 20 ∷ 21 ∷ 22 ∷ 23 ∷ 24 ∷ 25 ∷ 26 ∷ 27 ∷ 28 ∷ 29 ∷ 30 ∷ 31 ∷ [])
+    ∷ (0 ∷ 1 ∷ 2 ∷ 3 ∷ 4 ∷ 5 ∷ 6 ∷ 7 ∷ 8 ∷ 10 ∷ 11 ∷ 12 ∷ 13 ∷ 14 ∷ 15 ∷ 16 ∷ 17 ∷ 18 ∷ 19 ∷ 20 ∷ 21 ∷ 22 ∷ 23 ∷ 24 ∷ 25 ∷ 26 ∷ 27 ∷ 28 ∷ 29 ∷ 30 ∷ [])
+    ∷ (0 ∷ 1 ∷ 2 ∷ 3 ∷ 4 ∷ 5 ∷ 6 ∷ 7 ∷ 8 ∷ 9 ∷ 10 ∷ 11 ∷ 12 ∷ 13 ∷ 14 ∷ 15 ∷ 16 ∷ 17 ∷ 18 ∷ 19 ∷ 20 ∷ 21 ∷ 22 ∷ 23 ∷ 24 ∷ 25 ∷ 26 ∷ 27 ∷ 28 ∷ 29 ∷ 30 ∷ [])
+    ∷ []
+unfolding reading namesOf chosen
+outside-names = refl
+
+-- which says of every file: a name is outside class c where it is not of class c, and nowhere else
+outside-chosen : (s : Sheet) (c n : ℕ) → n < 32 → List·Memᴰ n (chosen (outsideClass s c) 32) ↔ (List·Memᴰ n (chosen (inClass s c) 32) → ⊥)
+outside-chosen s c n h = (
+  λ a b. not-both (inClass s c n) (chosen-passes (outsideClass s c) 32 n a .1) (chosen-passes (inClass s c) 32 n b .1),
+  λ f. passes-chosen (outsideClass s c) 32 n h (untrue (inClass s c n) (λ e. f (passes-chosen (inClass s c) 32 n h e))),
+)
+
+pub outside-apart : (s : Sheet) (c n : ℕ) → c < 8 → n < 32 → List·Memᴰ n (namesOf s (outside + c)) ↔ (List·Memᴰ n (namesOf s (inside + c)) → ⊥)
+unfolding namesOf
+outside-apart s c n h i =
+    let over : (outside + c) - outside ≡ c = omega arith in
+    let within : (inside + c) - inside ≡ c = omega arith in
+    rw (
+      le-ltb (outside + c) inside (omega arith),
+      le-ltb (outside + c) outside (omega arith),
+      le-ltb (inside + c) inside (omega arith),
+      lt-ltb (inside + c) outside (omega arith),
+      over,
+      within,
+    ) (outside-chosen s c n i)
 
 -- "A key byte is a name", whatever its classes
 pub one-name : map (namesOf (reading file .sheet)) (0 ∷ 4 ∷ 31 ∷ []) ≡ (0 ∷ []) ∷ (4 ∷ []) ∷ (31 ∷ []) ∷ []

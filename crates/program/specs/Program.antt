@@ -1,10 +1,11 @@
 -- A program: the declarations, the host's statements and the guests. Rules and machine are both defined over it. Assumes nothing.
 use mathlib.Core.List.{List, [], _∷_, _++_, map}
-use mathlib.Core.Bool.{Bool, cond}
+use mathlib.Core.Bool.{Bool, cond, not}
 use Prim.Native.Nat.{ℕ, _+_, _-_, _*_, _/_, _%_, _^_}
 use lib.ListN.{getD, take, drop, replicate}
 use lib.Dec.{eqb, ltb}
 use Rattle.rules.specs.Rule.{chosen}
+use Rattle.layout.specs.Key.{inside, outside}
 use Rattle.format.specs.Sheet.{Sheet, typeOf}
 use Rattle.format.specs.Records.{Record}
 use Rattle.format.specs.Reading.{Reading}
@@ -58,7 +59,7 @@ hostStatements (r ∷ rs) = placed (r .0) (statementsOf (r .1)) ++ hostStatement
 
 -- "3 whatever the guest makes", "variable 1 is the guest's bag"
 abbrev pub guestsOf : Sheet → List Guest
-guestsOf s = record { label = 3; bag = bag; key = 128; forbidden = s .forbidden } ∷ []
+guestsOf s = record { label = 3; bag = bag; key = inside; forbidden = s .forbidden } ∷ []
 
 -- the program of what was read
 unfoldable pub programOf : Reading → Program
@@ -80,10 +81,16 @@ maskOf s n = cond (eqb (getD (s .masks) n 0) 0) 1 (getD (s .masks) n 0)
 abbrev pub inClass : Sheet → ℕ → ℕ → Bool
 inClass s c n = eqb (maskOf s n / 2 ^ c % 2) 1
 
--- "A key byte is a name, or 128 + c for all names of class c"
+abbrev pub outsideClass : Sheet → ℕ → ℕ → Bool
+outsideClass s c n = not (inClass s c n)
+
+-- "A key byte is a name, or 128 + c for all names of class c"; "Key bytes 136 + c": "all names outside class c" (request 01)
 unfoldable pub namesOf : Sheet → ℕ → List ℕ
 unfolding chosen
-namesOf s key = cond (ltb key 128) (key ∷ []) (chosen (inClass s (key - 128)) 32)
+namesOf s key =
+    cond (ltb key inside) (key ∷ [])
+    (cond (ltb key outside) (chosen (inClass s (key - inside)) 32)
+    (chosen (outsideClass s (key - outside)) 32))
 
 abbrev pub isFunction : Sheet → ℕ → Bool
 isFunction s l = eqb (typeOf s l) 2

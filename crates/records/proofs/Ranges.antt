@@ -7,13 +7,13 @@ use Prim.Native.Nat.{ℕ, suc, _+_, _≤_, _<_}
 use native.Mathlib.Omega.{arith}
 use lib.ListN.{length, getD}
 use lib.Dec.{eqb, leb, ltb}
-use borrow.Author.Tests.{eqb-true, ltb-true, leb-true}
+use borrow.Author.Tests.{eqb-true, ltb-true}
 use Rattle.layout.specs.Layout.{Class, name, mask, newLabel, type, flag, anyLabel, hostLabel, functionLabel, plainLabel, dataLabel, scope, newVariable, variable, declaredVariable, globalVariable, variableName, key, fieldsOf}
 use Rattle.format.specs.Sheet.{Sheet, typeOf, declared}
 use Rattle.format.specs.Fields.{good, Fits}
 use Rattle.format.proofs.Fields.{fits-length, fits-good}
 use Rattle.format.proofs.Later.{Sized, declared-below}
-use Rattle.format.proofs.Tests.{and-first, and-second, or-true}
+use Rattle.format.proofs.Tests.{and-second, or-true}
 use Rattle.format.proofs.Effect.{not-equal}
 use Rattle.records.specs.Range.{Range, Ranged, InRange}
 
@@ -46,11 +46,7 @@ module _ (L : ℕ) (s : Sheet) (z : Sized L s) where
     range-good declaredVariable b e = tt
     range-good globalVariable b e = tt
     range-good variableName b e = λ n. ⊎-elim (λ p. absurd (n (eqb-true b 255 p))) (λ p. ltb-true b 32 p) (or-true (eqb b 255) (ltb b 32) e)
-    range-good key b e =
-        ⊎-elim (λ p. let h = ltb-true b 32 p in (omega arith, λ i. h))
-        (λ p. let h = leb-true 128 b (and-first (leb 128 b) (leb b 135) p) in
-        let i = leb-true b 135 (and-second (leb 128 b) (leb b 135) p) in (omega arith, λ j. absurd (omega arith)))
-        (or-true (ltb b 32) (leb 128 b && leb b 135) e)
+    range-good key b e = e
 
 ranged : (L : ℕ) (cs : List Class) (b : List ℕ) (j : ℕ) → ((i : ℕ) → i < length cs → Range L (getD cs i name) (getD b (j + i) 0)) → Ranged L cs b j
 ranged L [] b j h = tt

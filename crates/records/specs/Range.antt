@@ -1,10 +1,10 @@
--- The range of each byte of a record's body, as far as rows are computed from it: labels below L, names below 32, keys 0 to 31 or 128 to
--- 135. L is the number of labels. A readable file keeps to it (proofs/Ranges.antt). Assumes nothing.
+-- The range of each byte of a record's body, as far as rows are computed from it: labels below L, names below 32,
+-- keys. L is the number of labels. A readable file keeps to it (proofs/Ranges.antt). Assumes nothing.
 use mathlib.Core.Path.{_≡_}
 use mathlib.Core.List.{List, [], _∷_}
 use Prim.Native.Nat.{ℕ, suc, _<_}
 use lib.ListN.{length, getD}
-use Rattle.rows.specs.Row.{Key}
+use Rattle.layout.specs.Key.{Key}
 use Rattle.layout.specs.Layout.{Class, name, mask, newLabel, type, flag, anyLabel, hostLabel, functionLabel, plainLabel, dataLabel, scope, newVariable, variable, declaredVariable, globalVariable, variableName, key, fieldsOf, bodyLength}
 
 abbrev pub Range : ℕ → Class → ℕ → Type 0

@@ -1,7 +1,7 @@
 -- What a record says, as the code holds it: the rules of a statement. Assumes nothing.
 use mathlib.Core.List.{List, [], _∷_, map}
 use Prim.Native.Nat.{ℕ, zero, suc, _<_}
-use Rattle.rows.specs.Row.{Key}
+use Rattle.layout.specs.Key.{Key}
 use Rattle.rules.specs.Rule.{Rule, every}
 use Rattle.format.specs.Records.{Record}
 use Rattle.program.specs.Statement as say

@@ -27,7 +27,3 @@ InTable L (variable v) = v < 256
 InTable L (property l n) = (l < L) × (n < 32)
 InTable L (chain l) = l < L
 InTable L (thrown k) = k < L
-
--- a key byte: a name, or 128 + c for all names of class c
-abbrev pub Key : ℕ → Type 0
-Key b = (b < 136) × (b < 128 → b < 32)

@@ -1,17 +1,17 @@
 -- Laws of sets: the laws of runs of words, at the four words of a set. Assumes nothing.
 use mathlib.Core.Path.{_≡_, refl, sym, ap, _∙_}
 use mathlib.Core.Bool.{Bool, true, false, not}
-use Prim.Native.Nat.{ℕ, zero, suc, _+_, _-_, _*_, _/_, _%_, _^_, _≤_, _<_}
+use Prim.Native.Nat.{ℕ, zero, suc, _+_, _-_, _*_, _^_, _≤_, _<_}
 use native.Mathlib.Decide.{ℕ-discrete}
-use native.Mathlib.Nat.{zero-add, pow-suc}
+use native.Mathlib.Nat.{zero-add}
 use native.Mathlib.Omega.{arith}
 use borrow.Author.Tests.{eq-eqb, ne-eqb, eqb-true, eqb-false, not-true, not-false}
 use lib.Bits.{bitOr, or-add-and, and-le-l, and-le-r}
 use lib.Dec.{eqb}
 use lib.ListN.{getD}
-use lib.Pow.{pow-add, pow-pos}
+use lib.Pow.{pow-add}
 use Rattle.words.specs.Words.{bit, countBelow, Taken}
-use Rattle.words.proofs.Laws.{bit-low, bit-half}
+use Rattle.words.proofs.Laws.{ones-on}
 use Rattle.rows.specs.Run.{Words, number}
 use Rattle.rows.proofs.Run.{number-lt}
 use Rattle.rows.specs.Edition.{words, labels}
@@ -251,14 +251,6 @@ last-some true x a b c p =
 last-some false x a b c p = absurd (omega arith)
 
 -- ---- every label
-
--- the k lowest bits
-ones-on : (k l : ℕ) → l < k → bit (2 ^ k - 1) l ≡ 1
-ones-on zero l h = absurd (omega arith)
-ones-on (suc k) zero h = bit-low (2 ^ suc k - 1) ∙ (let e : (2 ^ suc k - 1) % 2 ≡ 1 = omega (arith, pow-suc 2 k, pow-pos k) in e)
-ones-on (suc k) (suc l) h =
-    let e : (2 ^ suc k - 1) / 2 ≡ 2 ^ k - 1 = omega (arith, pow-suc 2 k, pow-pos k) in
-    bit-half (2 ^ suc k - 1) l ∙ ap (λ (x : ℕ). bit x l) e ∙ ones-on k l (omega arith)
 
 pub full-on : (wide : Bool) (l : ℕ) → l < labels wide
     → bit (value wide (record { a = 18446744073709551615; b = 18446744073709551615; c = 18446744073709551615; d = 18446744073709551615 })) l ≡ 1

@@ -6,7 +6,8 @@ use Prim.Native.Nat.{ℕ, _+_, _*_}
 use native.Mathlib.Omega.{arith}
 use Rattle.words.proofs.Bits.{On, on-difference}
 use Rattle.rows.specs.Edition.{labels}
-use Rattle.rows.specs.Row.{Key, number, chain, thrown}
+use Rattle.rows.specs.Row.{number, chain, thrown}
+use Rattle.layout.specs.Key.{Key}
 use Rattle.rules.specs.Table.{Table}
 use Rattle.program.specs.Program.{Program}
 use Rattle.uses.specs.Gather.{rowFrom, underNames, Gathered}

@@ -1,7 +1,7 @@
 // A set spread to many rows; those of which the kept meet says that they hold it are passed over.
 ghost use Prim.Native.Nat.{_<_};
 ghost use lib.ListN.{length};
-ghost use Rattle.rows.specs.Row.{Key};
+ghost use Rattle.layout.specs.Key.{Key};
 ghost use Rattle.program.specs.Program.{Program};
 ghost use Rattle.sets.specs.Value.{value};
 ghost use Rattle.uses.specs.Use.{Lent};

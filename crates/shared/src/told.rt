@@ -2,13 +2,14 @@
 ghost use Prim.Native.Nat.{_≤_, _<_};
 ghost use lib.ListN.{length};
 ghost use Rattle.rows.specs.Edition.{labels};
-ghost use Rattle.rows.specs.Row.{Key, thrown, number, rowCount};
+ghost use Rattle.rows.specs.Row.{thrown, number, rowCount};
+ghost use Rattle.layout.specs.Key.{Key};
 ghost use Rattle.program.specs.Program.{Program};
 ghost use Rattle.sets.specs.Value.{value};
 ghost use Rattle.lent.specs.Table.{wordCount};
 ghost use Rattle.uses.specs.Use.{Lent};
 ghost use Rattle.kept.specs.Promise.{chains, throws, handed, under, Tellings};
-ghost use Rattle.host.specs.Lays.{Lays, Returns, ReturnsOf, Functions, arrays};
+ghost use Rattle.host.specs.Lays.{Lays, ReturnsOf, Functions, arrays};
 ghost use Rattle.shared.specs.Apply.{Applies, gathering};
 use rows::Label;
 use rows::Var;

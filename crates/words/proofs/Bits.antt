@@ -59,6 +59,9 @@ meet-on a b l h i = omega (arith, bit-meet a b l)
 pub on-difference : (a b l : ℕ) → On (difference a b) l → On a l
 on-difference a b l h = omega (arith, bit-difference a b l, bit-small a l)
 
+pub difference-off : (a b l : ℕ) → On (difference a b) l → On b l → ⊥
+difference-off a b l h i = omega (arith, bit-difference a b l, bit-small a l)
+
 -- a label of the first is in the second or in the difference
 pub difference-on : (a b l : ℕ) → On a l → On (difference a b) l ⊎ On b l
 difference-on a b l h = elim (on? b l) [ yes o ↦ inr o | no d ↦ inl (omega (arith, bit-difference a b l, off b l d)) ]

@@ -19,9 +19,8 @@ returns-10 c = rw (c .before .before .before .before .match .keys10, c .both4 .e
 returns-17 : tie.Need-returns-17
 unfolding good
 returns-17 c =
-    let r = c .before .before .match .rest in
-    let m : 16 ≤ c .before .before .before .before .before .args .class = beyond 16 _ r in
-    rw (class-rest _ m) (rw (c .before .both6 .ensures) at (c .either5 .ensures))
+    let m : 16 ≤ c .before .before .before .before .args .class = beyond 16 _ (c .before .match .rest) in
+    rw (class-rest _ m) (c .is-key .ensures)
 
 pub is-good-spec : {M : Type 1} → statement M
 unfolding good
@@ -30,7 +29,7 @@ is-good-spec =
     (λ c κs. search needs) (λ c κs. search needs) (λ c κs. search needs) (λ c κs. search needs) (λ c κs. search needs)
     (λ c κs. search needs) (λ c κs. search needs) (λ c κs. search needs) (λ c κs. search needs) (λ c κs. search needs)
     (λ c κs. search needs) (λ c κs. search needs) (λ c κs. search needs) (λ c κs. search needs) (λ c κs. search needs)
-    (λ c κs. search needs) (λ c κs. search needs) (λ c κs. search needs) (λ c κs. search needs) (λ c. rw (c .match .keys1))
+    (λ c κs. search needs) (λ c κs. search needs) (λ c κs. search needs) (λ c. rw (c .match .keys1))
     (λ c. rw (c .match .keys2)) returns-3 (λ c. rw (c .before .match .keys4) (c .both2 .ensures)) (λ c. rw (c .match .keys5))
     (λ c. rw (c .before .match .keys6, c .type-of .ensures))
     (λ c. rw (c .before .before .match .keys7, ← c .before .type-of2 .ensures) (c .both3 .ensures))

@@ -193,6 +193,21 @@ pub class-stored : EndsWith (journal ++ (plain 6 ∷ variable 3 ∷ held 3 6 ∷
 unfolding outcome
 class-stored = refl
 
+-- a load with the key of the names outside class 3: name 10 has a record without it, name 12 has none
+pub outside-loaded : EndsWith
+    (forbidden ++ (plain 6 ∷ variable 2 ∷ variable 3 ∷ held 3 6 ∷ property 6 10 5 ∷ property 6 12 6 ∷ load 0 2 3 139 6 ∷ grant 2 ∷ name 10 5 ∷ []))
+    (atPair (host (load 0 2 3 139 6)) 0 [] 10 0 ∷ grants 2 ∷ atPair (host (load 0 2 3 139 6)) 0 [] 12 0 ∷ grants 2 ∷ [])
+    (5 ∷ 6 ∷ [])
+unfolding outcome
+outside-loaded = refl
+
+-- and a store
+pub outside-stored : EndsWith (journal ++ (plain 6 ∷ variable 3 ∷ held 3 6 ∷ store 0 3 139 2 ∷ grant 3 ∷ name 10 5 ∷ []))
+    (atPair (host (store 0 3 139 2)) 0 [] 10 0 ∷ grants 3 ∷ loads 0 10 0 ∷ [])
+    (6 ∷ 5 ∷ [])
+unfolding outcome
+outside-stored = refl
+
 -- class 0 holds every name, here 31, which has no record
 pub every-name : EndsWith (journal ++ (plain 6 ∷ variable 3 ∷ variable 4 ∷ held 3 6 ∷ store 0 3 128 2 ∷ load 0 4 3 128 6 ∷ grant 4 ∷ []))
     (atPair (host (store 0 3 128 2)) 0 [] 31 0 ∷ atPair (host (load 0 4 3 128 6)) 0 [] 31 0 ∷ grants 4 ∷ [])

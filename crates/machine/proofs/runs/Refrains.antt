@@ -98,6 +98,31 @@ pub other-class : EndsWith
 unfolding outcome
 other-class = refl
 
+-- a name of class 3, by a record that stands behind, is not outside it: a list of hidden names guards them
+pub hidden-name : EndsWith
+    (journal ++ (plain 6 ∷ variable 3 ∷ variable 4 ∷ held 3 6 ∷ property 6 10 5 ∷
+    load 0 4 3 139 6 ∷ store 0 3 139 2 ∷ grant 3 ∷ grant 4 ∷ name 10 9 ∷ name 11 9 ∷ []))
+    (atPair (host (load 0 4 3 139 6)) 0 [] 10 0 ∷
+    grants 4 ∷
+    atPair (host (store 0 3 139 2)) 0 [] 11 0 ∷
+    grants 3 ∷
+    loads 1 11 0 ∷ [])  -- behind the primitive that was in variable 4
+    (6 ∷ [])
+unfolding outcome
+hidden-name = refl
+
+-- no name is outside class 0
+pub no-name : EndsWith
+    (journal ++ (plain 6 ∷ variable 3 ∷ variable 4 ∷ held 3 6 ∷ property 6 10 5 ∷ load 0 4 3 136 6 ∷ store 0 3 136 2 ∷ grant 3 ∷ grant 4 ∷ []))
+    (atPair (host (load 0 4 3 136 6)) 0 [] 10 0 ∷
+    grants 4 ∷
+    atPair (host (store 0 3 136 2)) 0 [] 31 0 ∷
+    grants 3 ∷
+    loads 1 31 0 ∷ [])
+    (6 ∷ [])
+unfolding outcome
+no-name = refl
+
 -- ---- stores
 
 -- the journal is stored in a built-in object that the guest has: nothing happens

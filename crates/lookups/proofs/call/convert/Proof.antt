@@ -1,4 +1,5 @@
 -- Prim: along the chains, under two names, then the functions. Assumes nothing.
+use mathlib.Core.Path.{refl}
 use borrow.Author.Needs.{needs}
 use native.Mathlib.Omega.{arith}
 use Rattle.sets.specs.Value.{value}
@@ -9,7 +10,7 @@ use Rattle.lookups.proofs.call.convert.Statement.{statement}
 use Rattle.lookups.proofs.call.convert.Tie as tie
 
 told-under-requires-2 : tie.Need-told-under-requires-2
-told-under-requires-2 c κs = (omega (arith, c .before .before .before .before .before .before .before .before .before .before .before .before .pre .0 .room), (omega arith, λ i. omega arith))
+told-under-requires-2 c κs = (omega (arith, c .before .before .before .before .before .before .before .before .before .before .before .before .pre .0 .room), refl)
 
 returns : tie.Need-returns
 returns c =

@@ -1,6 +1,6 @@
 -- The object of new, and its prototype. Assumes nothing.
+use mathlib.Core.Path.{refl}
 use borrow.Author.Needs.{needs}
-use native.Mathlib.Omega.{arith}
 use Rattle.uses.proofs.Rows.{variable-row}
 use Rattle.uses.proofs.Use.{reached-length}
 use Rattle.lookups.proofs.Calls.{object-applies}
@@ -19,7 +19,7 @@ look-up-requires c κs =
     let same = told .before .before .before .before .before .before .before in
     let give = same .before .before .before .before in
     let start = give .before .before .before .before in
-    (rw (reached-length (same .copy .ensures .only), reached-length (give .give .ensures .only)) (start .pre .0), c .chain .ensures .1, (omega arith, λ i. omega arith))
+    (rw (reached-length (same .copy .ensures .only), reached-length (give .give .ensures .only)) (start .pre .0), c .chain .ensures .1, refl)
 
 returns : tie.Need-returns
 returns c =
