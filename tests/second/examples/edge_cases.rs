@@ -7,8 +7,9 @@ use second::generate::edges;
 use second::reader::read_in;
 use std::fs;
 
-/// The byte values on both sides of every border that document 01 draws.
-const BORDERS: [u8; 24] = [0, 1, 2, 3, 4, 5, 6, 7, 8, 9, 10, 11, 12, 13, 31, 32, 63, 64, 127, 128, 135, 136, 254, 255];
+/// The byte values on both sides of every border that document 01 and request 01 draw.
+const BORDERS: [u8; 26] =
+    [0, 1, 2, 3, 4, 5, 6, 7, 8, 9, 10, 11, 12, 13, 31, 32, 63, 64, 127, 128, 135, 136, 143, 144, 254, 255];
 
 fn line(edition: Edition, file: &[u8]) -> String {
     match read_in(edition, file) {

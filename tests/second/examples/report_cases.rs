@@ -1,22 +1,28 @@
 //! Writes the files of the Rattle program `cases` and what it must print, of each file in both editions: document 01's eight listed files, four structured
-//! files that use every kind of record, two confined and two leaking, and two more with labels above 63. Run from this package's folder.
+//! files that use every kind of record, two confined and two leaking, two more with labels above 63, request 01's example with keys on both sides of their
+//! borders, and two random files whose tables hang on keys outside a class. Run from this package's folder.
 
 use second::check::check_in;
 use second::edition::Edition;
-use second::generate::structured_in;
-use second::reader::{body_length, read, read_in};
+use second::generate::rekey::rekey;
+use second::generate::{random, structured_in};
+use second::keys::{EVERY_NAME, KEY_OUTSIDE_CLASS};
+use second::reader::{read, read_in, record_starts};
 use second::report::report_in;
-use second::solver::{solve, Verdict};
+use second::solver::{solve, Answer, Verdict};
 use std::collections::BTreeSet;
 use std::fs;
 
 fn kinds(file: &[u8]) -> BTreeSet<u8> {
-    let (mut at, mut seen) = (0, BTreeSet::new());
-    while at < file.len() {
-        seen.insert(file[at]);
-        at += 1 + body_length(file[at]).expect("readable");
-    }
-    seen
+    record_starts(file).into_iter().map(|start| file[start]).collect()
+}
+
+fn answer(edition: Edition, file: &[u8]) -> Answer {
+    solve(&read_in(edition, file).expect("readable"))
+}
+
+fn leaks(answer: &Answer) -> bool {
+    matches!(answer.verdict, Verdict::Leaks(_))
 }
 
 fn listed() -> Vec<Vec<u8>> {
@@ -29,6 +35,29 @@ fn listed() -> Vec<Vec<u8>> {
     let granted = [&journal, [6, 2].as_slice()].concat();
     let returned = [&function, [23, 6, 2].as_slice()].concat();
     vec![vec![], vec![3, 3], journal, named, granted, built_in, function, returned]
+}
+
+/// The keys of request 01's example.
+const KEYS: [u8; 7] = [4, 129, 135, 136, 137, 143, 144];
+
+/// Request 01's example: name 4, of class 1, holds label 6, and a load with the key gives the guest what it finds.
+fn with_key(key: u8) -> Vec<u8> {
+    let names = [[1, 4, 3].as_slice(), &[2, 5, 1, 0], &[2, 6, 1, 0], &[5, 2, 0, 255], &[5, 3, 0, 255]].concat();
+    [&names, [8, 2, 5].as_slice(), &[7, 5, 4, 6], &[6, 3], &[17, 0, 3, 2, key, 5]].concat()
+}
+
+/// The first random file of at most 1,000 bytes that leaks or not as asked, and has another table if its keys outside a class have every name.
+fn outside_keys(leaking: bool) -> Vec<u8> {
+    let every = |key| if key > KEY_OUTSIDE_CLASS { EVERY_NAME } else { key };
+    (0..)
+        .map(|seed| random(seed).1)
+        .find(|file| {
+            let answer_of = |file: &[u8]| answer(Edition::Small, file);
+            file.len() <= 1_000
+                && leaks(&answer_of(file)) == leaking
+                && answer_of(file).table != answer_of(&rekey(file, every)).table
+        })
+        .unwrap()
 }
 
 /// What is printed of a file in an edition: the verdict, and what the check says of the table that it left.
@@ -49,7 +78,7 @@ fn every_kind(edition: Edition, from: u64, leaking: bool) -> Vec<u8> {
         .find(|f| {
             kinds(f).len() == 19
                 && (edition == Edition::Small || read(f).is_err())
-                && matches!(solve(&read_in(edition, f).unwrap()).verdict, Verdict::Leaks(_)) == leaking
+                && leaks(&answer(edition, f)) == leaking
         })
         .unwrap()
 }
@@ -62,6 +91,10 @@ fn main() -> std::io::Result<()> {
     }
     for (number, leaking) in (1..).zip([false, true]) {
         cases.push((format!("large-{number}"), every_kind(Edition::Large, 1000 * number, leaking)));
+    }
+    cases.extend(KEYS.map(|key| (format!("key-{key}"), with_key(key))));
+    for (number, leaking) in (1..).zip([false, true]) {
+        cases.push((format!("outside-{number}"), outside_keys(leaking)));
     }
     let mut lines = String::new();
     for (name, file) in &cases {

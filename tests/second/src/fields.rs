@@ -1,5 +1,6 @@
 //! What a byte of each sort has to be, given what earlier records declared; else the refusal's number.
 
+use crate::keys::{Key, NAMES};
 use crate::program::{Program, Type, GUEST};
 
 pub const BAD_VARIABLE: u8 = 3;
@@ -8,7 +9,7 @@ pub const BAD_NAME: u8 = 5;
 pub const TWICE: u8 = 6;
 
 pub fn name(n: u8) -> Result<u8, u8> {
-    if n < 32 {
+    if n < NAMES {
         Ok(n)
     } else {
         Err(BAD_NAME)
@@ -16,11 +17,7 @@ pub fn name(n: u8) -> Result<u8, u8> {
 }
 
 pub fn key(b: u8) -> Result<u8, u8> {
-    if b < 32 || (128..136).contains(&b) {
-        Ok(b)
-    } else {
-        Err(BAD_NAME)
-    }
+    Key::of(b).map(|_| b).ok_or(BAD_NAME)
 }
 
 impl Program {

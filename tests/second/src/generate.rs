@@ -10,6 +10,7 @@ pub mod halves;
 pub mod kit;
 pub mod object_gadgets;
 pub mod random;
+pub mod rekey;
 pub mod relabel;
 pub mod relay;
 pub mod rounds;

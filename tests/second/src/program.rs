@@ -1,6 +1,7 @@
 //! What a readable statement file says: its declarations and its records, as plain data.
 
 use crate::edition::Edition;
+use crate::keys::{Key, CLASS_ZERO, EVERY_NAME, NAMES};
 use crate::row::Row;
 
 /// The longest statement file that is read.
@@ -57,8 +58,8 @@ pub enum Record {
 /// The guest: scope 3, variable 1 in every variable field, w, l, q = 3 and key 128.
 pub const GUEST_STATEMENTS: [Record; 8] = [
     Record::MakeFunction { k: GUEST, y: BAG, l: GUEST, q: GUEST },
-    Record::Load { k: GUEST, y: BAG, object: BAG, key: 128, w: GUEST },
-    Record::Store { k: GUEST, object: BAG, key: 128, value: BAG },
+    Record::Load { k: GUEST, y: BAG, object: BAG, key: EVERY_NAME, w: GUEST },
+    Record::Store { k: GUEST, object: BAG, key: EVERY_NAME, value: BAG },
     Record::Call { k: GUEST, y: BAG, callee: BAG, this: BAG, args: [BAG; 6] },
     Record::New { k: GUEST, y: BAG, callee: BAG, t: BAG, l: GUEST, args: [BAG; 6] },
     Record::Return { k: GUEST, value: BAG },
@@ -73,7 +74,8 @@ pub struct Program {
     pub labels: [Option<Label>; 256],
     pub functions: [Option<Function>; 256],
     pub variables: [Option<Variable>; 256],
-    pub masks: [Option<u8>; 32],
+    /// The class masks of the whole file.
+    pub masks: [Option<u8>; NAMES as usize],
     pub forbidden: Row,
     /// Records of kinds 6 to 26 in the order of the file.
     pub records: Vec<Record>,
@@ -97,7 +99,7 @@ impl Program {
             labels,
             functions,
             variables: [None; 256],
-            masks: [None; 32],
+            masks: [None; NAMES as usize],
             forbidden: Row::EMPTY,
             records: Vec::new(),
             guest: GUEST_STATEMENTS.to_vec(),
@@ -124,18 +126,23 @@ impl Program {
         self.labels[l as usize].is_some_and(|label| label.built_in)
     }
 
-    /// True where name `n` is one of the names that the key byte stands for.
+    fn in_class(&self, n: u8, c: u8) -> bool {
+        self.masks[n as usize].unwrap_or(CLASS_ZERO) >> c & 1 == 1
+    }
+
+    /// True where name `n` is one of the names that the key byte stands for; a byte that is no key stands for none.
     pub fn key_has(&self, key: u8, n: u8) -> bool {
-        if key < 128 {
-            return key == n;
+        match Key::of(key) {
+            Some(Key::Name(name)) => name == n,
+            Some(Key::OfClass(c)) => self.in_class(n, c),
+            Some(Key::OutsideClass(c)) => !self.in_class(n, c),
+            None => false,
         }
-        let mask = self.masks[n as usize].unwrap_or(1);
-        mask >> (key - 128) & 1 == 1
     }
 
     /// The names of a key byte, ascending.
     pub fn names(&self, key: u8) -> impl Iterator<Item = u8> + '_ {
-        (0u8..32).filter(move |&n| self.key_has(key, n))
+        (0..NAMES).filter(move |&n| self.key_has(key, n))
     }
 
     /// The records of the file and then the statements of the guest.

@@ -2,6 +2,7 @@
 
 use crate::edition::Edition;
 use crate::fields::{key, name, BAD_LABEL, BAD_NAME, BAD_VARIABLE, TWICE};
+use crate::keys::CLASS_ZERO;
 use crate::program::{Function, Label, Program, Record, Type, Variable, LONGEST_FILE};
 use crate::row::Row;
 
@@ -76,6 +77,17 @@ pub fn body_length(kind: u8) -> Option<usize> {
     })
 }
 
+/// Positions of the kind bytes, up to the first unknown kind.
+pub fn record_starts(file: &[u8]) -> Vec<usize> {
+    let mut starts = Vec::new();
+    let mut at = 0;
+    while let Some(length) = file.get(at).and_then(|&kind| body_length(kind)) {
+        starts.push(at);
+        at += 1 + length;
+    }
+    starts
+}
+
 /// Takes one record into the program; the bytes are tested from the left.
 fn take(program: &mut Program, kind: u8, b: &[u8]) -> Result<(), u8> {
     let record = match kind {
@@ -134,7 +146,7 @@ fn statement(program: &Program, kind: u8, b: &[u8]) -> Result<Record, u8> {
 
 fn take_name(program: &mut Program, n: u8, mask: u8) -> Result<(), u8> {
     let n = name(n)? as usize;
-    if mask & 1 == 0 {
+    if mask & CLASS_ZERO == 0 {
         return Err(BAD_NAME);
     }
     if program.masks[n].is_some() {

@@ -78,7 +78,7 @@ pub fn solve(program: &Program) -> Answer {
         program,
         graph: Graph::new(e.all_rows()),
         waits: vec![Vec::new(); e.all_rows()],
-        names: (0..=255).map(|key| if key < 136 { program.names(key).collect() } else { vec![] }).collect(),
+        names: (0..=255).map(|key| program.names(key).collect()).collect(),
     };
     solver.start();
     for record in program.all_records() {

@@ -1,4 +1,4 @@
-//! Every byte value in every field of every kind, against a list of good values written by hand from document 01 and request 13.
+//! Every byte value in every field of every kind, against a list of good values written by hand from document 01 and requests 01 and 13.
 
 use second::generate::edges_in;
 use second::reader::read_in;
@@ -63,7 +63,7 @@ fn judge(edition: Edition, field: Field, value: u8) -> u8 {
             }
         }
         Key => {
-            if value <= 31 || (128..=135).contains(&value) {
+            if value <= 31 || (128..=143).contains(&value) {
                 0
             } else {
                 5

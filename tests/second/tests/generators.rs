@@ -1,9 +1,11 @@
-//! The generators in both editions: the same file for the same seed, readable where they promise it, and of every kind.
+//! The generators in both editions: the same file for the same seed, readable where they promise it, of every kind and with every sort of key.
 
+use second::generate::rekey::{key_positions, rekey};
 use second::generate::{
     damaged_in, dense_in, every, every_in, random_in, relay_in, rounds_in, spread_in, structured_in, Named,
 };
-use second::reader::{body_length, read_in};
+use second::keys::{Key, EVERY_NAME, KEY_OF_CLASS, NO_NAME};
+use second::reader::{read_in, record_starts};
 use second::solver::{solve, Verdict};
 use second::Edition;
 use std::time::{Duration, Instant};
@@ -91,14 +93,91 @@ fn every_kind_is_written() {
         let mut counts = [0usize; 27];
         for seed in 0..400 {
             let file = make(edition, seed).1;
-            let mut at = 0;
-            while at < file.len() {
-                counts[file[at] as usize] += 1;
-                at += 1 + body_length(file[at]).expect("a kind");
+            for start in record_starts(&file) {
+                counts[file[start] as usize] += 1;
             }
         }
         println!("{edition:?} {title}: records by kind {counts:?}");
         assert!((1..=8).chain(16..=26).all(|kind| counts[kind] > 0), "{edition:?} {title}");
+    }
+}
+
+/// Another key for the keys of a sort, and none for all others.
+type Exchange = fn(Key) -> Option<u8>;
+const OUTSIDE_TO_NONE: Exchange = |key| matches!(key, Key::OutsideClass(1..)).then_some(NO_NAME);
+const OUTSIDE_TO_EVERY: Exchange = |key| matches!(key, Key::OutsideClass(1..)).then_some(EVERY_NAME);
+const EXCHANGES: [(&str, Exchange); 7] = [
+    ("a name to every name", |key| matches!(key, Key::Name(_)).then_some(EVERY_NAME)),
+    ("of a class to no name", |key| matches!(key, Key::OfClass(1..)).then_some(NO_NAME)),
+    ("of a class to every name", |key| matches!(key, Key::OfClass(1..)).then_some(EVERY_NAME)),
+    ("outside a class to no name", OUTSIDE_TO_NONE),
+    ("outside a class to every name", OUTSIDE_TO_EVERY),
+    ("outside a class to inside", |key| match key {
+        Key::OutsideClass(c @ 1..) => Some(KEY_OF_CLASS + c),
+        _ => None,
+    }),
+    ("no name to every name", |key| (key == Key::OutsideClass(0)).then_some(EVERY_NAME)),
+];
+
+fn exchanged(file: &[u8], exchange: Exchange) -> Vec<u8> {
+    rekey(file, |byte| Key::of(byte).and_then(exchange).unwrap_or(byte))
+}
+
+/// Every sort of key is in many files, and in some of them another key in its place gives another table.
+#[test]
+fn every_sort_of_key_counts() {
+    let makers = READABLE.into_iter().filter(|(title, _)| ["random", "structured"].contains(title));
+    for (edition, (title, make)) in Edition::BOTH.into_iter().flat_map(|e| makers.clone().map(move |make| (e, make))) {
+        let table = |file: &[u8]| solve(&read_in(edition, file).expect("readable")).table;
+        let mut found = [(0, 0); EXCHANGES.len()];
+        for file in (0..300).map(|seed| make(edition, seed).1).filter(|file| file.len() < 3_000) {
+            let before = table(&file);
+            for ((files, other_tables), (_, exchange)) in found.iter_mut().zip(EXCHANGES) {
+                let changed = exchanged(&file, exchange);
+                if changed != file {
+                    *files += 1;
+                    *other_tables += (table(&changed) != before) as usize;
+                }
+            }
+        }
+        for ((files, other_tables), (what, _)) in found.into_iter().zip(EXCHANGES) {
+            println!("{edition:?} {title}, {what}: another table of {other_tables} files of {files}");
+            assert!(files >= 10 && other_tables >= 5, "{edition:?} {title}, {what}");
+        }
+    }
+}
+
+/// Keys outside a class stand in files of many rounds and in full ones too.
+#[test]
+fn keys_outside_a_class_are_everywhere() {
+    for edition in Edition::BOTH {
+        for (make, seeds) in
+            [(rounds_in as Make, 40), (spread_in, 40), (dense_in, 10), (relay_in, 10), (damaged_in, 40)]
+        {
+            let files = (0..seeds).map(|seed| make(edition, seed).1);
+            let outside = |key: u8| matches!(Key::of(key), Some(Key::OutsideClass(_)));
+            let with = files.filter(|file| key_positions(file).any(|at| outside(file[at]))).count();
+            assert!(with >= 3, "{edition:?} {}", make(edition, 0).0);
+        }
+    }
+}
+
+/// A list of names guards hidden fields: with lookups under every name some confined files would leak. Others leak only because a hidden
+/// name is not on the list.
+#[test]
+fn lists_of_names_guard_hidden_fields() {
+    for edition in Edition::BOTH {
+        let leaks = |file: &[u8]| solve(&read_in(edition, file).expect("readable")).verdict != Verdict::Confined;
+        let (mut guarded, mut left_off) = (0, 0);
+        for (_, file) in (0..600).map(|seed| structured_in(edition, seed)).filter(|(name, _)| name.contains("hidden")) {
+            if leaks(&file) {
+                left_off += !leaks(&exchanged(&file, OUTSIDE_TO_NONE)) as usize;
+            } else {
+                guarded += leaks(&exchanged(&file, OUTSIDE_TO_EVERY)) as usize;
+            }
+        }
+        println!("{edition:?}: {guarded} files are guarded, {left_off} leak by a name left off the list");
+        assert!(guarded >= 20 && left_off >= 5);
     }
 }
 

@@ -1,4 +1,4 @@
-//! The eight listed files of document 01, its edges, and its traps, against reader, solver and check, in both editions.
+//! The eight listed files of document 01, its edges as request 01 leaves them, and its traps, against reader, solver and check, in both editions.
 
 use second::check::check_in;
 use second::generate::writer::Writer;
@@ -101,17 +101,21 @@ fn edges_of_size() {
     }
 }
 
+/// A label of four bytes and a load with the key.
+fn with_key(key: u8) -> Vec<u8> {
+    let mut w = Writer::new();
+    w.label(5, 1, 0).load(0, 0, 0, key, 5);
+    w.bytes
+}
+
 #[test]
 fn edges_of_keys_and_labels() {
     for edition in Edition::BOTH {
-        for (key, good) in
-            [(0, true), (31, true), (32, false), (127, false), (128, true), (135, true), (136, false), (255, false)]
-        {
-            let mut w = Writer::new();
-            let end = w.label(5, 1, 0).bytes.len();
-            w.load(0, 0, 0, key, 5);
-            let expected = if good { None } else { Some(Refusal { number: 5, position: end }) };
-            assert_eq!(read_in(edition, &w.bytes).err(), expected);
+        for key in [0, 31, 128, 135, 136, 143] {
+            assert_eq!(read_in(edition, &with_key(key)).err(), None);
+        }
+        for key in [32, 127, 144, 255] {
+            assert_eq!(refusal(edition, &with_key(key)), (5, 4));
         }
         let large = edition == Edition::Large;
         for (l, good) in [(4, false), (5, true), (63, true), (64, large), (200, large), (255, large)] {
@@ -208,5 +212,86 @@ fn masks_built_ins_and_named_variables() {
         let rows = rows(e, &w);
         assert_eq!((rows[e.h(5, 11)], rows[e.h(5, 12)], rows[e.h(6, 11)]), (row(&[7]), row(&[]), row(&[])));
         assert_eq!((rows[e.s(3)], rows[e.s(4)], rows[e.h(0, 9)]), (row(&[7]), row(&[7]), row(&[7])));
+    }
+}
+
+/// Request 01: name 4 is in class 1 and holds 6; what the guest gets by a load with the key.
+#[test]
+fn keys_for_everything_but_a_class() {
+    let mut head = Writer::new();
+    head.name(4, 3).label(5, 1, 0).label(6, 1, 0).variable(2, 0, 255).variable(3, 0, 255);
+    head.held(2, 5).property(5, 4, 6).grant(3);
+    let (found, missed) = ("confined 152\nguest 3 6\n", "confined 52\nguest 3\n");
+    let list = [
+        (129, found),
+        (4, found),
+        (135, missed),
+        (136, missed),
+        (137, missed),
+        (138, found),
+        (143, found),
+        (144, "refused 5 28\n"),
+    ];
+    for (edition, (key, lines)) in Edition::BOTH.into_iter().flat_map(|e| list.map(|case| (e, case))) {
+        let mut w = head.clone();
+        w.load(0, 3, 2, key, 5);
+        assert_eq!(report_in(edition, &w.bytes), lines, "{edition:?} key {key}");
+    }
+}
+
+/// The names of a class and those outside it, by masks before and after; a name without a record is in class 0 alone.
+#[test]
+fn names_of_keys() {
+    let mut w = Writer::new();
+    w.name(4, 3).label(5, 1, 0).load(0, 0, 0, 137, 5).name(9, 131).name(31, 255);
+    let but = |left_out: &[u8]| -> Vec<u8> { (0..=31).filter(|n| !left_out.contains(n)).collect() };
+    let list = [
+        (0, vec![0]),
+        (31, vec![31]),
+        (128, but(&[])),
+        (129, vec![4, 9, 31]),
+        (130, vec![31]),
+        (135, vec![9, 31]),
+        (136, vec![]),
+        (137, but(&[4, 9, 31])),
+        (138, but(&[31])),
+        (143, but(&[9, 31])),
+    ];
+    for edition in Edition::BOTH {
+        let program = read_in(edition, &w.bytes).expect("readable");
+        for (key, names) in &list {
+            assert_eq!(program.names(*key).collect::<Vec<u8>>(), *names, "key {key}");
+        }
+    }
+}
+
+/// A load with the key of no name finds nothing, and still puts w in its object, as the check demands; a store with it does nothing.
+#[test]
+fn the_key_of_no_name() {
+    let mut w = Writer::new();
+    w.label(5, 1, 0).label(6, 1, 0).label(7, 1, 0).variable(2, 0, 255).variable(3, 0, 255).variable(4, 0, 255);
+    w.property(5, 7, 6).property(1, 8, 4).held(4, 6).load(0, 3, 2, 136, 5).store(0, 2, 136, 4);
+    for e in Edition::BOTH {
+        let rows = rows(e, &w);
+        assert_eq!((rows[e.s(2)], rows[e.s(3)], rows[e.h(5, 7)]), (row(&[5]), row(&[]), row(&[6])));
+        assert!((0..32).all(|n| n == 7 || rows[e.h(5, n)].is_empty()));
+        let mut table = answer(e, &w.bytes).table;
+        assert_eq!(check_in(e, &w.bytes, &table), Ok(()));
+        e.put(&mut table, e.s(2), row(&[]));
+        assert_eq!(check_in(e, &w.bytes, &table), Err(Refusal { number: 10, position: 2 }));
+    }
+}
+
+/// A name that is given another class leaves the key outside that class: facts may become fewer.
+#[test]
+fn more_classes_may_mean_fewer_facts() {
+    let facts = |e, mask| {
+        let mut w = Writer::new();
+        w.label(5, 1, 0).label(6, 1, 0).variable(2, 0, 255).variable(3, 0, 255).held(2, 5).held(3, 6);
+        w.store(0, 2, 137, 3).name(7, mask);
+        answer(e, &w.bytes).facts
+    };
+    for e in Edition::BOTH {
+        assert_eq!((facts(e, 1) - facts(e, 3), facts(e, 1) - facts(e, 5)), (1, 0));
     }
 }

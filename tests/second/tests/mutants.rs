@@ -1,9 +1,10 @@
 //! Shows that walks notice a rule left out: tables of a program that lacks something, walked over the whole program.
 
-use second::generate::{random_in, rounds_in, structured_in};
+mod common;
+
+use common::short_files;
 use second::machine::walk;
 use second::program::{Program, Record, Type};
-use second::reader::read_in;
 use second::solver::solve;
 use second::Edition;
 
@@ -23,7 +24,7 @@ fn replace(program: &mut Program, by: fn(Record) -> Vec<Record>) {
     program.records = program.records.iter().flat_map(|&record| by(record)).collect();
 }
 
-const CHANGES: [(&str, Change); 32] = [
+const CHANGES: [(&str, Change); 33] = [
     ("grant", |p| lose(p, |r| matches!(r, Record::Grant { .. }))),
     ("property", |p| lose(p, |r| matches!(r, Record::Property { .. }))),
     ("held", |p| lose(p, |r| matches!(r, Record::Held { .. }))),
@@ -50,7 +51,9 @@ const CHANGES: [(&str, Change); 32] = [
     ("formals", |p| p.functions.iter_mut().skip(5).flatten().for_each(|f| f.formals = [0; 6])),
     ("sixth formal", |p| p.functions.iter_mut().skip(5).flatten().for_each(|f| f.formals[5] = 0)),
     ("names of variables", |p| p.variables.iter_mut().flatten().for_each(|v| v.name = None)),
+    // Names leave the keys of a class where masks lose bits, and the keys outside a class where they gain some.
     ("masks", |p| p.masks = [None; 32]),
+    ("masks with every class", |p| p.masks = [Some(255); 32]),
     ("array prototypes", |p| {
         p.labels.iter_mut().flatten().filter(|l| l.kind == Type::Array).for_each(|l| l.kind = Type::Plain)
     }),
@@ -88,22 +91,13 @@ const CHANGES: [(&str, Change); 32] = [
 
 /// Where the first walk that leaves the table was found.
 fn noticed(edition: Edition, change: Change) -> Option<String> {
-    for seed in 0..600 {
-        for make in [structured_in, rounds_in, random_in] {
-            let (name, file) = make(edition, seed);
-            if file.len() > 6000 {
-                continue;
-            }
-            let program = read_in(edition, &file).expect("readable");
-            let mut changed = program.clone();
-            change(&mut changed);
-            let table = solve(&changed).table;
-            if let Err(error) = walk(&program, &table, seed, 2000) {
-                return Some(format!("{name}: {error}"));
-            }
-        }
-    }
-    None
+    short_files(edition, 600).find_map(|made| {
+        let program = made.program();
+        let mut changed = program.clone();
+        change(&mut changed);
+        let error = walk(&program, &solve(&changed).table, made.seed, 2000).err()?;
+        Some(format!("{}: {error}", made.name))
+    })
 }
 
 #[test]

@@ -2,8 +2,9 @@
 
 use second::check::{check, check_in, check_program, one_use};
 use second::generate::{dense_in, random_in, rounds_in, spread_in, structured_in, Named};
+use second::keys::{CLASSES, EVERY_NAME, KEY_OF_CLASS, KEY_OUTSIDE_CLASS};
 use second::prng::Prng;
-use second::program::Program;
+use second::program::{Program, Record};
 use second::reader::{read_in, Refusal};
 use second::row::Row;
 use second::solver::{solve, Verdict};
@@ -114,6 +115,34 @@ fn the_solver_finds_the_least_table_of_many() {
             let program = read_in(edition, &file).expect("readable");
             assert_eq!(solve(&program).table, by_rounds(&program, empty(&program)).0, "{name}");
         }
+    }
+}
+
+/// A load or store of every name as two: one of the names of the class, and one of those outside it.
+fn split(record: Record, class: u8) -> Vec<Record> {
+    let keys = [KEY_OF_CLASS + class, KEY_OUTSIDE_CLASS + class];
+    match record {
+        Record::Load { k, y, object, key: EVERY_NAME, w } => {
+            keys.map(|key| Record::Load { k, y, object, key, w }).to_vec()
+        }
+        Record::Store { k, object, key: EVERY_NAME, value } => {
+            keys.map(|key| Record::Store { k, object, key, value }).to_vec()
+        }
+        other => vec![other],
+    }
+}
+
+/// The names of a class and those outside it are together every name, for host and guest.
+#[test]
+fn a_class_and_what_is_outside_it_are_every_name() {
+    let mut r = Prng::new(7);
+    for (name, _, program) in programs(0..150, 0..30) {
+        let class = r.below(CLASSES as usize) as u8;
+        let mut halved = program.clone();
+        for records in [&mut halved.records, &mut halved.guest] {
+            *records = records.iter().flat_map(|&record| split(record, class)).collect();
+        }
+        assert_eq!(solve(&halved).table, solve(&program).table, "{name}, class {class}");
     }
 }
 

@@ -91,6 +91,35 @@ fn leaks_are_reached() {
     }
 }
 
+/// Names 4 and 9 are in class 1, by masks before and after the keys. A load with a key finds what object 5 holds under the names of the
+/// key, and a store reaches just these names of object 6.
+#[test]
+fn walks_choose_the_pairs_of_a_key() {
+    let of_class = [4, 9];
+    for (e, key) in Edition::BOTH.into_iter().flat_map(|e| [(e, 128), (e, 129), (e, 136), (e, 137), (e, 143)]) {
+        let has = |n: u8| match key {
+            128 | 143 => true,
+            129 => of_class.contains(&n),
+            137 => !of_class.contains(&n),
+            _ => false,
+        };
+        let mut w = Writer::new();
+        w.name(4, 3).label(5, 1, 0).label(6, 1, 0).label(7, 1, 0).label(8, 1, 0).label(9, 1, 0).label(10, 1, 0);
+        w.variable(2, 0, 255).variable(3, 0, 255).variable(4, 0, 255).variable(5, 0, 255);
+        w.held(2, 5).held(4, 6).held(5, 7).property(5, 4, 8).property(5, 9, 9).property(5, 10, 10);
+        w.load(0, 3, 2, key, 5).store(0, 4, key, 5).name(9, 3);
+        let program = read_in(e, &w.bytes).expect("readable");
+        let table = solve(&program).table;
+        let seen = witnessed(&program, &table, 0..5, 3000).expect("within the table");
+        let found: Row = [(4, 8), (9, 9), (10, 10)].into_iter().filter(|(n, _)| has(*n)).map(|(_, l)| l).collect();
+        for facts in [seen, table] {
+            assert_eq!(e.row(&facts, e.s(3)), found, "{e:?} key {key}");
+            let reached = |n: u8| !e.row(&facts, e.h(6, n)).is_empty();
+            assert!((0..32).all(|n| reached(n) == has(n)), "{e:?} key {key}");
+        }
+    }
+}
+
 /// The same seed walks the same way.
 #[test]
 fn walks_repeat() {

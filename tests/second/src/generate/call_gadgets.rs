@@ -1,6 +1,7 @@
 //! Pieces of structured files about calls: closures, arguments, throws, constructors, methods, call-backs.
 
 use super::kit::{Fun, Kit};
+use crate::keys::{EVERY_NAME, KEY_OUTSIDE_CLASS, NO_NAME};
 
 /// f(x) keeps x in its own variable and returns an inner function that may give it back or set it.
 pub fn closure(kit: &mut Kit) {
@@ -79,9 +80,9 @@ pub fn prim(kit: &mut Kit) {
     let f = kit.fun(1);
     let fv = kit.hold_function(f);
     let (l, object, caught, out) = (kit.plain(), kit.top(), kit.top(), kit.top());
-    let n = kit.r.pick(&[1, 2, 128]);
+    let key = kit.r.pick(&[1, 2, EVERY_NAME, KEY_OUTSIDE_CLASS + 1, NO_NAME]);
     let other = if kit.r.chance(1, 4) { kit.some_secret() } else { kit.some_open() };
-    kit.say(|w| w.make(0, object, l).store(0, object, n, fv).prim(0, object).copy(f.l, out, f.this));
+    kit.say(|w| w.make(0, object, l).store(0, object, key, fv).prim(0, object).copy(f.l, out, f.this));
     kit.say(|w| w.prim(0, other).throw(f.l, f.this).catch(0, caught));
     kit.expose(object);
 }

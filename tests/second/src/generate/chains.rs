@@ -1,6 +1,7 @@
 //! The chains of generator (c): each passes the forbidden object on, or what is needed to find it, from link to link.
 
 use super::rounds::{Chain, Most};
+use crate::keys::{CLASSES, CLASS_ZERO, EVERY_NAME, KEY_OF_CLASS, KEY_OUTSIDE_CLASS, NAMES};
 use crate::prng::Prng;
 
 pub type Maker = fn(&mut Prng, &Most) -> Chain;
@@ -47,7 +48,7 @@ fn properties(r: &mut Prng, most: &Most) -> Chain {
         chain.link(|w| w.load(0, l + far, l, l % 32, 6));
         chain.link(|w| w.copy(0, l + 2 * far, l + far));
         if l > 7 {
-            chain.link(|w| w.store(0, l - 1, 128, l + 2 * far - 1));
+            chain.link(|w| w.store(0, l - 1, EVERY_NAME, l + 2 * far - 1));
         }
     }
     chain.end(r, last + 2 * far);
@@ -149,21 +150,25 @@ fn globals(r: &mut Prng, _: &Most) -> Chain {
     chain
 }
 
-/// All variables and all names: loads by class feed stores by class, and prim calls pass the objects on.
+/// All variables and all names: loads of and outside a class feed stores with the same key, and prim calls pass the objects on. Name records
+/// stand between them.
 fn chains(r: &mut Prng, most: &Most) -> Chain {
     let mut chain = Chain::start();
     let last = r.between(20, most.two as usize) as u8;
     chain.functions(7, last, |f| f + most.second);
     chain.top(7, last);
-    for n in 0..32 {
-        chain.head.name(n, 1 | 2 << (n % 7));
-    }
+    let class = |number: u8| 1 + number % (CLASSES - 1);
     chain.head.variable(3, 0, 255);
     for f in 7..=last {
+        let key = class(f) + if f % 2 == 0 { KEY_OF_CLASS } else { KEY_OUTSIDE_CLASS };
+        let n = f - 7;
+        if n < NAMES {
+            chain.link(|w| w.name(n, CLASS_ZERO | 1 << class(n)));
+        }
         chain.link(|w| w.held(f, f));
         chain.link(|w| w.store(0, f, 1 + f % 2, if f == last { f } else { f + 1 }));
-        chain.link(|w| w.store(0, f, 128 + f % 8, if f == 7 { 2 } else { f + most.second - 1 }));
-        chain.link(|w| w.load(f, f + most.second, f, 128 + f % 8, 6));
+        chain.link(|w| w.store(0, f, key, if f == 7 { 2 } else { f + most.second - 1 }));
+        chain.link(|w| w.load(f, f + most.second, f, key, 6));
         chain.link(|w| w.prim(if f == 7 { 0 } else { f - 1 }, f));
         chain.link(|w| w.throw(f, f + most.second));
         chain.link(|w| w.catch(f, 3));

@@ -1,12 +1,13 @@
 //! Generator (d), first part: readable files of the other generators, damaged.
 
-use super::edges::{border_bytes, KINDS};
+use super::edges::{border_bytes, KEY_BORDERS, KINDS};
+use super::rekey::key_positions;
 use super::{random_in, rounds_in, structured_in, title, Named};
 use crate::edition::Edition;
 use crate::prng::Prng;
-use crate::reader::body_length;
+use crate::reader::{body_length, record_starts};
 
-/// Makes a readable file and then changes, cuts, inserts, doubles or swaps some of its bytes.
+/// Makes a readable file and then changes, cuts, inserts, doubles or swaps some of its bytes, keys among them.
 pub fn damaged_in(edition: Edition, seed: u64) -> Named {
     let mut r = Prng::new(seed.wrapping_mul(17).wrapping_add(0xD));
     let base = r.next() % 100_000;
@@ -29,7 +30,7 @@ fn damage(edition: Edition, r: &mut Prng, bytes: &mut Vec<u8>) {
     }
     let at = r.below(bytes.len());
     let start = r.pick(&starts);
-    match r.below(8) {
+    match r.below(9) {
         0 => bytes[at] = r.byte(),
         1 => bytes[at] = r.pick(border_bytes(edition)),
         2 => bytes.truncate(at),
@@ -37,6 +38,12 @@ fn damage(edition: Edition, r: &mut Prng, bytes: &mut Vec<u8>) {
         4 => drop(bytes.remove(at)),
         5 => bytes[start] = r.pick(&KINDS),
         6 => {
+            let key = key_positions(bytes).find(|&key| key >= at);
+            if let Some(key) = key {
+                bytes[key] = r.pick(&KEY_BORDERS);
+            }
+        }
+        7 => {
             let length = body_length(bytes[start]).unwrap_or(0) + 1;
             let record = bytes[start..(start + length).min(bytes.len())].to_vec();
             let to = r.pick(&starts);
@@ -48,15 +55,4 @@ fn damage(edition: Edition, r: &mut Prng, bytes: &mut Vec<u8>) {
             bytes.drain(start..end);
         }
     }
-}
-
-/// Positions of the kind bytes, up to the first unknown kind.
-fn record_starts(bytes: &[u8]) -> Vec<usize> {
-    let mut starts = Vec::new();
-    let mut at = 0;
-    while let Some(length) = bytes.get(at).and_then(|&kind| body_length(kind)) {
-        starts.push(at);
-        at += 1 + length;
-    }
-    starts
 }

@@ -3,7 +3,10 @@
 use super::writer::Writer;
 use super::{title, Named};
 use crate::edition::Edition;
+use crate::keys::{CLASSES, CLASS_ZERO, EVERY_NAME, KEY_OF_CLASS, KEY_OUTSIDE_CLASS, NAMES};
 use crate::prng::Prng;
+use crate::program::LONGEST_FILE;
+use std::ops::Range;
 
 /// Plain labels, functions and arrays, each a run of labels of the edition.
 struct Labels {
@@ -44,6 +47,17 @@ impl Labels {
     }
 }
 
+/// The keys of loads and stores.
+#[derive(Clone, Copy, Debug)]
+enum Keys {
+    /// Every name.
+    Every,
+    /// Every name, or all outside a class.
+    Most,
+    /// A name, all of a class but class 0, or all outside a class.
+    Any,
+}
+
 /// Makes a full file of one kind of statement (or all kinds) over all labels and all 254 variables, few or all of them granted.
 pub fn dense_in(edition: Edition, seed: u64) -> Named {
     let mut r = Prng::new(seed.wrapping_mul(23).wrapping_add(0xF));
@@ -52,9 +66,9 @@ pub fn dense_in(edition: Edition, seed: u64) -> Named {
     for l in edition.declarable() {
         w.label(l, all.kind(l), 0);
     }
-    for n in 0..32 {
-        w.name(n, r.byte() | 1);
-    }
+    // Half of the name records stand before the keys, half after them.
+    w.put(&names(&mut r, 0..NAMES / 2));
+    let late_names = names(&mut r, NAMES / 2..NAMES);
     // The last variables belong to functions.
     for v in 2..=255 {
         w.variable(v, if v < 200 { 0 } else { all.some_function(&mut r) }, 255);
@@ -74,13 +88,22 @@ pub fn dense_in(edition: Edition, seed: u64) -> Named {
     }
     w.forbid(r.between(5, all.last as usize) as u8);
     let only = r.pick(&[16, 17, 18, 21, 22, 26, 0, 0]);
-    let key = r.pick(&[128, 128, 255]);
-    while w.bytes.len() + 18 <= 32_768 {
+    let keys = r.pick(&[Keys::Every, Keys::Most, Keys::Any]);
+    while w.bytes.len() + late_names.len() + 18 <= LONGEST_FILE {
         let kind = if only != 0 && r.chance(9, 10) { only } else { r.between(16, 26) as u8 };
-        statement(&all, &mut r, &mut w, kind, key);
+        statement(&all, &mut r, &mut w, kind, keys);
     }
-    w.fill(32_768);
-    (format!("{}-{only}-{key}", title(edition, "dense", seed)), w.bytes)
+    w.put(&late_names).fill(LONGEST_FILE);
+    (format!("{}-{only}-{keys:?}", title(edition, "dense", seed)), w.bytes)
+}
+
+/// A record with any mask for each of the names.
+fn names(r: &mut Prng, names: Range<u8>) -> Vec<u8> {
+    let mut w = Writer::new();
+    for n in names {
+        w.name(n, CLASS_ZERO | r.byte());
+    }
+    w.bytes
 }
 
 /// Any declared variable.
@@ -88,10 +111,21 @@ fn some(r: &mut Prng) -> u8 {
     r.between(2, 255) as u8
 }
 
-fn statement(all: &Labels, r: &mut Prng, w: &mut Writer, kind: u8, key: u8) {
+fn some_key(r: &mut Prng, keys: Keys) -> u8 {
+    match keys {
+        Keys::Every => EVERY_NAME,
+        Keys::Most => r.pick(&[EVERY_NAME, KEY_OUTSIDE_CLASS + 1]),
+        Keys::Any => match r.below(3) {
+            0 => r.below(NAMES as usize) as u8,
+            1 => KEY_OF_CLASS + r.between(1, CLASSES as usize - 1) as u8,
+            _ => KEY_OUTSIDE_CLASS + r.below(CLASSES as usize) as u8,
+        },
+    }
+}
+
+fn statement(all: &Labels, r: &mut Prng, w: &mut Writer, kind: u8, keys: Keys) {
     let k = if r.chance(1, 3) { 0 } else { all.some_function(r) };
-    let some_key = if r.chance(1, 2) { r.below(32) } else { r.between(129, 135) } as u8;
-    let key = if key == 255 { some_key } else { key };
+    let key = some_key(r, keys);
     let (a, b, c) = (some(r), some(r), some(r));
     let plain = all.some_plain(r);
     let function = all.some_function(r);

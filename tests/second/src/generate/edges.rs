@@ -1,5 +1,6 @@
 //! Generator (d), second part: every byte value in every field of every kind, and files about the greatest size.
 
+use super::rekey::rekey;
 use super::relabel::{identity, relabel, Map};
 use super::writer::Writer;
 use super::{title, Named};
@@ -8,13 +9,19 @@ use crate::prng::Prng;
 
 pub const KINDS: [u8; 19] = [1, 2, 3, 4, 5, 6, 7, 8, 16, 17, 18, 19, 20, 21, 22, 23, 24, 25, 26];
 
-/// Byte values on both sides of the borders; the last two are borders of words in the large edition only.
-const BORDERS: [u8; 28] =
-    [0, 1, 2, 3, 4, 5, 6, 7, 8, 9, 10, 11, 12, 13, 30, 31, 32, 63, 64, 127, 128, 135, 136, 200, 254, 255, 191, 192];
+/// Byte values on both sides of the borders; those of words in the large edition only come last.
+const BORDERS: [u8; 30] = [
+    0, 1, 2, 3, 4, 5, 6, 7, 8, 9, 10, 11, 12, 13, 30, 31, 32, 63, 64, 127, 128, 135, 136, 143, 144, 200, 254, 255, 191,
+    192,
+];
+const LARGE_BORDERS: usize = 2;
+
+/// Keys on both sides of the borders, and one of each sort within them.
+pub const KEY_BORDERS: [u8; 10] = [31, 32, 127, 128, 129, 135, 136, 137, 143, 144];
 
 pub fn border_bytes(edition: Edition) -> &'static [u8] {
     match edition {
-        Edition::Small => &BORDERS[..26],
+        Edition::Small => &BORDERS[..BORDERS.len() - LARGE_BORDERS],
         Edition::Large => &BORDERS,
     }
 }
@@ -50,7 +57,7 @@ fn good(edition: Edition, kind: u8) -> Vec<u8> {
         8 => &[3, 6],
         16 => &[6, 4, 2],
         17 => &[0, 3, 4, 129, 8],
-        18 => &[9, 2, 31, 6],
+        18 => &[9, 2, 137, 6],
         19 => &[0, 2, 7],
         20 => &[6, 5, 9, 5],
         21 => &[0, 2, 3, 4, 5, 6, 0, 2, 3, 4],
@@ -110,7 +117,7 @@ pub fn edge_mix_in(edition: Edition, seed: u64) -> Named {
                 record[field] = r.pick(border_bytes(edition));
             }
         }
-        w.put(&record);
+        w.put(&rekey(&record, |key| if r.chance(1, 2) { r.pick(&KEY_BORDERS) } else { key }));
     }
     if r.chance(1, 2) {
         due(edition, &mut w);

@@ -6,7 +6,8 @@ use crate::edition::Edition;
 
 pub type Gadget = (&'static str, fn(&mut Kit));
 
-const GADGETS: [Gadget; 17] = [
+/// The pieces; those with many labels come last.
+const GADGETS: [Gadget; 19] = [
     ("closure", calls::closure),
     ("membrane", calls::membrane),
     ("prototypes", objects::prototypes),
@@ -14,6 +15,8 @@ const GADGETS: [Gadget; 17] = [
     ("constructor", calls::constructor),
     ("array", objects::array),
     ("classes", objects::classes),
+    ("hidden_fields", objects::hidden_fields),
+    ("hidden_listener", objects::hidden_listener),
     ("global", objects::global),
     ("builtin", objects::builtin),
     ("frozen", objects::frozen),
@@ -25,11 +28,12 @@ const GADGETS: [Gadget; 17] = [
     ("sites", objects::sites),
     ("sites", objects::sites),
 ];
+const MANY_LABELS: usize = 2;
 
 /// The pieces of the edition: the small one has no room for the many labels of `sites`.
 pub fn gadgets(edition: Edition) -> &'static [Gadget] {
     match edition {
-        Edition::Small => &GADGETS[..15],
+        Edition::Small => &GADGETS[..GADGETS.len() - MANY_LABELS],
         Edition::Large => &GADGETS,
     }
 }

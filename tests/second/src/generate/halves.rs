@@ -1,6 +1,7 @@
 //! What a random file has declared so far, and random fields and statements over it.
 
 use super::writer::Writer;
+use crate::keys::{CLASSES, EVERY_NAME, KEY_OF_CLASS, KEY_OUTSIDE_CLASS, NAMES};
 use crate::prng::Prng;
 
 /// What one half of a file has declared. The halves keep apart as far as `Plan::crossing` says.
@@ -21,6 +22,8 @@ pub struct Plan {
     pub grants: usize,
     pub forbids: usize,
     pub properties: usize,
+    /// Name records at the end of the file, after every key.
+    pub late_names: usize,
     /// A record mixes the halves in this many of a thousand cases.
     pub crossing: usize,
     /// Forbid in the second half only, grant in the first half only.
@@ -36,6 +39,7 @@ pub struct State {
     pub free_labels: Vec<u8>,
     pub free_variables: Vec<u8>,
     pub free_names: Vec<u8>,
+    pub late_names: Vec<u8>,
     pub unwritten: Vec<(u8, usize)>,
 }
 
@@ -122,12 +126,13 @@ impl State {
     }
 
     pub fn key(&mut self) -> u8 {
-        match self.r.below(8) {
-            0 => 128 + self.r.below(8) as u8,
-            1 => 128,
-            2 => 3,
-            3 => 1 + self.r.below(2) as u8,
-            _ => self.r.below(32) as u8,
+        match self.r.below(10) {
+            0 => KEY_OF_CLASS + self.r.below(CLASSES as usize) as u8,
+            1 => EVERY_NAME,
+            2 | 3 => KEY_OUTSIDE_CLASS + self.r.below(CLASSES as usize) as u8,
+            4 => 3,
+            5 => 1 + self.r.below(2) as u8,
+            _ => self.r.below(NAMES as usize) as u8,
         }
     }
 

@@ -2,6 +2,7 @@
 
 use super::writer::Writer;
 use crate::edition::Edition;
+use crate::keys::{CLASSES, CLASS_ZERO};
 use crate::prng::Prng;
 
 /// A declared function with its own variables.
@@ -143,6 +144,14 @@ impl Kit {
             self.masked |= 1 << n;
             self.say(|w| w.name(n, mask));
         }
+    }
+
+    /// A fresh name and the class that lists it; by a slip it is not listed.
+    pub fn listed_name(&mut self) -> (u8, u8) {
+        let (n, class) = (self.name(), self.r.below(CLASSES as usize) as u8);
+        let listed = if self.slips() { 0 } else { 1 << class };
+        self.name_mask(n, CLASS_ZERO | listed);
+        (n, class)
     }
 
     pub fn held(&mut self, v: u8, l: u8) {

@@ -1,6 +1,7 @@
 //! Pieces of structured files about objects: prototypes, arrays, classes of names, the global object, built-ins.
 
 use super::kit::Kit;
+use crate::keys::{CLASS_ZERO, EVERY_NAME, KEY_OF_CLASS, KEY_OUTSIDE_CLASS, NO_NAME};
 
 /// Functions whose prototype property is made by new of the one before; methods are found far up the chain.
 pub fn prototypes(kit: &mut Kit) {
@@ -27,32 +28,60 @@ pub fn prototypes(kit: &mut Kit) {
     kit.expose(if depth == 2 { object } else { found });
 }
 
-/// An array whose numbered entries are names of one class, filled and read by class.
+/// An array whose numbered entries are names of one class, filled by class; a name outside the class is read, or all of them.
 pub fn array(kit: &mut Kit) {
     let l = kit.label(3, 0);
     let (list, entry, wrap) = (kit.top(), kit.top(), kit.plain());
     let class = kit.r.between(1, 7) as u8;
     let n = kit.name();
-    kit.name_mask(n, 1 | 1 << class);
+    kit.name_mask(n, CLASS_ZERO | 1 << class);
     let value = if kit.r.chance(1, 4) { kit.some_secret() } else { kit.some_open() };
-    kit.say(|w| w.make(0, list, l).store(0, list, 128 + class, value));
-    let other = if kit.slips() { n } else { kit.name() };
-    kit.say(|w| w.load(0, entry, list, other, wrap));
+    kit.say(|w| w.make(0, list, l).store(0, list, KEY_OF_CLASS + class, value));
+    let other = kit.name();
+    let key = if kit.slips() { n } else { kit.r.pick(&[other, KEY_OUTSIDE_CLASS + class]) };
+    kit.say(|w| w.load(0, entry, list, key, wrap));
     kit.expose(entry);
 }
 
-/// Secrets under names of one class, open values under names of another, read by class.
+/// Secrets under names of one class, open values under names of another; the second class is read, or all but the first.
 pub fn classes(kit: &mut Kit) {
     let (a, b) = (kit.name(), kit.name());
     let (one, two) = (kit.r.between(1, 3) as u8, kit.r.between(4, 7) as u8);
     let both = if kit.slips() { 1 << one | 1 << two } else { 0 };
-    kit.name_mask(a, 1 | 1 << one | both);
-    kit.name_mask(b, 1 | 1 << two);
+    kit.name_mask(a, CLASS_ZERO | 1 << one | both);
+    kit.name_mask(b, CLASS_ZERO | 1 << two);
     let (l, object, out, wrap) = (kit.plain(), kit.top(), kit.top(), kit.plain());
     let (secret, open) = (kit.some_secret(), kit.some_open());
     kit.say(|w| w.make(0, object, l).store(0, object, a, secret).store(0, object, b, open));
-    kit.say(|w| w.load(0, out, object, 128 + two, wrap));
+    let key = kit.r.pick(&[KEY_OF_CLASS + two, KEY_OUTSIDE_CLASS + one]);
+    kit.say(|w| w.load(0, out, object, key, wrap));
     kit.expose(out);
+}
+
+/// Hidden fields guarded by a list of names: the guest's lookups go under every name outside it. By a slip a hidden name is not on
+/// the list, and the guest gets the secret.
+pub fn hidden_fields(kit: &mut Kit) {
+    let get = kit.fun(0);
+    let (getter, found) = (kit.hold_function(get), kit.var(get.l));
+    let (l, object, wrap) = (kit.plain(), kit.top(), kit.plain());
+    let ((hidden, list), shown) = (kit.listed_name(), kit.name());
+    let (secret, open) = (kit.some_secret(), kit.some_open());
+    kit.say(|w| w.make(0, object, l).store(0, object, hidden, secret).store(0, object, shown, open));
+    kit.say(|w| w.load(get.l, found, object, KEY_OUTSIDE_CLASS + list, wrap).give_back(get.l, found));
+    kit.expose(getter);
+}
+
+/// A hidden field holds the listener that is called with the secret, and the guest stores under every name outside the list. By a slip
+/// the hidden name is not on the list, and the guest's own function is called.
+pub fn hidden_listener(kit: &mut Kit) {
+    let (set, listen) = (kit.fun(1), kit.fun(1));
+    let (setter, listener) = (kit.hold_function(set), kit.hold_function(listen));
+    let (l, object, called, wrap) = (kit.plain(), kit.top(), kit.top(), kit.plain());
+    let ((hidden, list), secret) = (kit.listed_name(), kit.some_secret());
+    kit.say(|w| w.make(0, object, l).store(0, object, hidden, listener));
+    kit.say(|w| w.load(0, called, object, hidden, wrap).call(0, 0, called, 0, [secret, 0, 0, 0, 0, 0]));
+    kit.say(|w| w.store(set.l, object, KEY_OUTSIDE_CLASS + list, set.formals[0]));
+    kit.expose(setter);
 }
 
 /// Named variables, which are properties of the global object; the host may read that object by load.
@@ -62,7 +91,7 @@ pub fn global(kit: &mut Kit) {
     let (object, wrap) = (kit.top(), kit.plain());
     let (secret, open) = (kit.some_secret(), kit.some_open());
     kit.say(|w| w.copy(0, hidden, secret).copy(0, shown, open).held(object, 0));
-    let key = if kit.slips() { 128 } else { b };
+    let key = if kit.slips() { EVERY_NAME } else { b };
     kit.say(|w| w.load(0, out, object, key, wrap));
     if kit.slips() {
         kit.expose(object);
@@ -103,8 +132,8 @@ pub fn primitive(kit: &mut Kit) {
     let (out, empty) = (kit.top(), kit.top());
     let holder = kit.r.pick(&[wrap, 1]);
     kit.say(|w| w.property(holder, n, part));
-    let object = kit.r.pick(&[0, empty]);
-    kit.say(|w| w.load(0, out, object, n, wrap));
+    let (object, key) = (kit.r.pick(&[0, empty]), kit.r.pick(&[n, n, NO_NAME]));
+    kit.say(|w| w.load(0, out, object, key, wrap));
     kit.expose(out);
 }
 

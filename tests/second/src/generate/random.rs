@@ -4,6 +4,7 @@ use super::halves::{Half, Plan, State};
 use super::writer::Writer;
 use super::{title, Named};
 use crate::edition::Edition;
+use crate::keys::{CLASS_ZERO, NAMES};
 use crate::prng::Prng;
 use std::ops::RangeInclusive;
 
@@ -11,24 +12,29 @@ use std::ops::RangeInclusive;
 pub fn random_in(edition: Edition, seed: u64) -> Named {
     let mut r = Prng::new(seed.wrapping_mul(7).wrapping_add(0xA));
     let plan = plan(edition, &mut r);
+    let mut free_names = shuffled(&mut r, 0..=NAMES - 1);
     let mut state = State {
         w: Writer::new(),
-        plan,
         halves: [Half::default(), Half::default()],
         side: 0,
         free_labels: shuffled(&mut r, edition.declarable()),
         free_variables: shuffled(&mut r, 2..=255),
-        free_names: shuffled(&mut r, 0..=31),
+        late_names: free_names.split_off(NAMES as usize - plan.late_names),
+        free_names,
         unwritten: Vec::new(),
+        plan,
         r,
     };
-    // 12 bytes for the longest record, 6 for filling up, 9 for each function record still due.
-    while state.w.bytes.len() + 9 * state.unwritten.len() + 9 + 18 <= state.plan.target {
+    // 12 bytes for the longest record, 6 for filling up, 9 for each function record still due, 3 for each name record.
+    while state.w.bytes.len() + 9 * state.unwritten.len() + 9 + 3 * state.late_names.len() + 18 <= state.plan.target {
         state.side = state.r.below(2);
         state.record();
     }
     while let Some((l, side)) = state.unwritten.pop() {
         state.function(l, side);
+    }
+    while let Some(n) = state.late_names.pop() {
+        state.name(n);
     }
     let target = state.plan.target;
     state.w.fill(target);
@@ -54,6 +60,7 @@ fn plan(edition: Edition, r: &mut Prng) -> Plan {
         grants: r.pick(&[0, 1, 2, 3, 20]),
         forbids: r.pick(&[1, 1, 2, 5, 20]),
         properties: r.pick(&[0, 2, 10, 100]),
+        late_names: r.pick(&[0, 0, 0, 3, 10]),
         crossing: r.pick(&[0, 0, 0, 5, 50, 500]),
         guarded: r.chance(2, 3),
     }
@@ -79,10 +86,9 @@ impl State {
         match self.r.below(12) {
             0 | 1 | 2 if self.plan.labels > 0 => self.label(),
             3..=6 if self.plan.variables > 0 => self.variable(),
-            7 if !self.free_names.is_empty() && self.r.chance(1, 2) => {
-                let n = self.free_names.pop().unwrap_or(0);
-                let mask = 1 | self.r.byte() & self.r.byte();
-                self.w.name(n, mask);
+            7 => {
+                let Some(n) = self.free_names.pop() else { return false };
+                self.name(n);
             }
             8 if !self.unwritten.is_empty() => {
                 let (l, side) = self.unwritten.remove(0);
@@ -107,6 +113,13 @@ impl State {
             _ => return false,
         }
         true
+    }
+
+    /// Gives the name few classes, many or all.
+    fn name(&mut self, n: u8) {
+        let (some, others) = (self.r.byte(), self.r.byte());
+        let classes = self.r.pick(&[some & others, some & others, some | others, u8::MAX]);
+        self.w.name(n, CLASS_ZERO | classes);
     }
 
     fn label(&mut self) {

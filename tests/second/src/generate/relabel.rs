@@ -1,7 +1,7 @@
 //! Gives the labels of a file other numbers, so that small numbers become large ones.
 
 use crate::prng::Prng;
-use crate::reader::body_length;
+use crate::reader::record_starts;
 
 /// For each label the number that it gets.
 pub type Map = [u8; 256];
@@ -33,14 +33,12 @@ fn label_bytes(kind: u8) -> &'static [usize] {
 /// The file with the labels of its records changed by the map, up to the first unknown kind.
 pub fn relabel(file: &[u8], map: &Map) -> Vec<u8> {
     let mut changed = file.to_vec();
-    let mut at = 0;
-    while let Some(length) = file.get(at).and_then(|&kind| body_length(kind)) {
-        for byte in label_bytes(file[at]) {
-            if let Some(label) = changed.get_mut(at + 1 + byte) {
+    for start in record_starts(file) {
+        for byte in label_bytes(file[start]) {
+            if let Some(label) = changed.get_mut(start + 1 + byte) {
                 *label = map[*label as usize];
             }
         }
-        at += 1 + length;
     }
     changed
 }

@@ -5,6 +5,7 @@ use super::relabel::{any_order, relabel};
 use super::writer::Writer;
 use super::{title, Named};
 use crate::edition::Edition;
+use crate::keys::{EVERY_NAME, KEY_OUTSIDE_CLASS};
 use crate::prng::Prng;
 use std::ops::RangeInclusive;
 
@@ -22,6 +23,8 @@ const FIRST_CALLEE: u8 = 4;
 const COURSE: RangeInclusive<u8> = FIRST_CALLEE + FUNCTIONS..=255;
 /// The name under which a runner holds the next.
 const NEXT: u8 = 31;
+/// No name has a record, so that each of these keys has every name.
+const FILLING_KEYS: [u8; 2] = [EVERY_NAME, KEY_OUTSIDE_CLASS + 1];
 
 /// How a runner gets from one variable to the next.
 #[derive(Clone, Copy)]
@@ -77,7 +80,7 @@ pub fn relay_in(edition: Edition, seed: u64) -> Named {
         w.grant(SINK);
     }
     for _ in 0..r.pick(&[0, 100]) {
-        w.load(0, SINK, r.between(2, 255) as u8, 128, WRAPPER);
+        w.load(0, SINK, r.between(2, 255) as u8, r.pick(&FILLING_KEYS), WRAPPER);
     }
     w.fill(32_768);
     let file = if edition == Edition::Large { relabel(&w.bytes, &any_order(&mut r)) } else { w.bytes };
