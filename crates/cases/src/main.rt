@@ -1,6 +1,7 @@
 // A test of the operations: for each file of data/ prints the verdict, and what the check says of the table it left, in the edition of 64 labels and then in
-// that of 256. The first eight are document 01's listed files, the next use every kind of record, the last labels above 63. What must be printed comes from the second implementation
-// (`cargo run --example report_cases` in tests/second). Of a file that cannot be read nothing is printed, and a line on standard error says why.
+// that of 256. The first eight are document 01's listed files, the next use every kind of record, then labels above 63, then one load with keys at the borders,
+// the last the names outside a class. What must be printed comes from the second implementation (`cargo run --example report_cases` in tests/second). Of a
+// file that cannot be read nothing is printed, and a line on standard error says why.
 use input::Got;
 use libc::STDERR_FILENO;
 use rows::LARGE_TABLE_WORDS;
@@ -67,4 +68,13 @@ fn main() {
     show(b"every-4");
     show(b"large-1");
     show(b"large-2");
+    show(b"key-4");
+    show(b"key-129");
+    show(b"key-135");
+    show(b"key-136");
+    show(b"key-137");
+    show(b"key-143");
+    show(b"key-144");
+    show(b"outside-1");
+    show(b"outside-2");
 }

@@ -1,7 +1,7 @@
 // A test of the reader: prints what reading gives for each file of `data/cases`, and for files of 32,767 to 32,769 bytes, in the edition of 64 labels
 // and then in that of 256. The cases are the edges of every field of every kind, cut records and functions left out; they and what this program must
-// print come from the reader in tests/second, which was written from document 01 and request 13 alone (`cargo run --example edge_cases` there). Where they cannot be
-// read nothing is printed, and a line on standard error says why.
+// print come from the reader in tests/second, which was written from the papers alone (`cargo run --example edge_cases` there). Where they cannot be read
+// nothing is printed, and a line on standard error says why.
 use input::Got;
 use libc::STDERR_FILENO;
 use libc::STDOUT_FILENO;
