@@ -4,6 +4,8 @@
 
 enum { NONE, PLAIN, FUNCTION, ARRAY };             /* types of labels */
 enum { TOP = 0, GUEST = 3, FIRST_LABEL = 5, UNDECLARED = 256, NO_NAME = 255 }; /* owners are labels or UNDECLARED */
+/* A key is a name, or with a class added: the names of the class, or those outside it. */
+enum { NAMES = 32, CLASSES = 8, CLASS_KEYS = 128, OUTSIDE_KEYS = CLASS_KEYS + CLASSES, KEYS_END = OUTSIDE_KEYS + CLASSES };
 
 /* What the records so far declare. */
 struct sheet {
@@ -11,7 +13,7 @@ struct sheet {
     uint8_t type[256];
     uint8_t function[256];
     uint16_t owner[256];
-    uint8_t masked[32];
+    uint8_t masked[NAMES];
 };
 
 /* The kinds of document 01, with a letter for each byte of the body. */
@@ -34,7 +36,7 @@ static int made(const struct sheet *sheet, unsigned byte, uint8_t type)
 static int good(const struct sheet *sheet, char field, unsigned before, unsigned byte)
 {
     switch (field) {
-    case 'N': return byte < 32 && !sheet->masked[byte];                             /* a name without a mask */
+    case 'N': return byte < NAMES && !sheet->masked[byte];                          /* a name without a mask */
     case 'm': return byte % 2 == 1;                                                 /* a mask */
     case 'L': return made(sheet, byte, NONE);                                       /* a label not declared */
     case 't': return byte >= PLAIN && byte <= ARRAY;                                /* a type */
@@ -50,9 +52,9 @@ static int good(const struct sheet *sheet, char field, unsigned before, unsigned
     case 'v': return byte == 0 || sheet->owner[byte] != UNDECLARED;                 /* a variable or none */
     case 'x': return sheet->owner[byte] != UNDECLARED;                              /* a variable */
     case 'g': return sheet->owner[byte] == TOP;                                     /* a variable of the top level */
-    case 'o': return byte == NO_NAME || (byte < 32 && before == TOP);               /* a variable's name */
-    case 'n': return byte < 32;                                                     /* a name */
-    default: return byte < 32 || (byte >= 128 && byte < 136);                       /* a key */
+    case 'o': return byte == NO_NAME || (byte < NAMES && before == TOP);            /* a variable's name */
+    case 'n': return byte < NAMES;                                                  /* a name */
+    default: return byte < NAMES || (byte >= CLASS_KEYS && byte < KEYS_END);        /* a key */
     }
 }
 

@@ -79,8 +79,8 @@ static void say(void)
 enum { BEYOND = 8, PAGE = 65536 }; /* PAGE: a multiple of the usual page sizes */
 enum { FILE_ROOM = PAGE, TABLE_BYTES = 5 * PAGE, TABLE_ROOM = TABLE_BYTES / 8 };
 
-/* Values on both sides of the borders that document 01 and request 13 draw. */
-static const uint8_t borders[] = {0, 1, 2, 3, 4, 5, 31, 32, 63, 64, 127, 128, 135, 136, 191, 192, 254, 255};
+/* Values on both sides of the borders that document 01 and requests 01 and 13 draw. */
+static const uint8_t borders[] = {0, 1, 2, 3, 4, 5, 31, 32, 63, 64, 127, 128, 135, 136, 143, 144, 191, 192, 254, 255};
 
 /* ---- the properties */
 

@@ -67,7 +67,7 @@ fn facts(program: &Program) -> String {
         }
     }
     program.named().for_each(|(v, n)| say(format!("named({v},{n})")));
-    for key in (0..32).chain(128..136) {
+    for key in 0..=255 {
         program.names(key).for_each(|n| say(format!("key({key},{n})")));
     }
     for (i, record) in program.all_records().enumerate() {

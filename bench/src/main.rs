@@ -7,8 +7,8 @@ use bench::files::lists::{self, Named};
 use bench::files::ordinary::ordinary;
 use bench::files::worst::{worst, Shape};
 use bench::files::{dense, LONGEST};
+use bench::pairs::{self, Pair};
 use bench::stack::used_by;
-use bench::width::{self, Width};
 use bench::{archive, edition, slowest, table};
 use second::Edition;
 use std::time::Duration;
@@ -26,6 +26,7 @@ fn main() {
         groups(edition, limit);
     }
     widths(limit);
+    keys(limit);
     clingo();
     stack();
 }
@@ -80,12 +81,28 @@ fn widths(limit: Duration) {
         .chain(lists::mazes(e))
         .chain(lists::lures(e))
         .chain(slowest::read(e));
-    let mut rows = vec![Width::titles()];
+    let mut rows = vec![Pair::titles(["verdict", "verdict_large"], ["check", "check_large"])];
     for (name, file) in files {
         eprintln!("width, {name}");
-        rows.push(width::measure(&name, &file, limit).line(limit));
+        rows.push(pairs::measure(&name, Edition::BOTH.map(|edition| (edition, &file[..])), limit).line(limit));
     }
     table::print(&rows);
+}
+
+/// The same files under class keys and under outside keys.
+fn keys(limit: Duration) {
+    for edition in Edition::BOTH {
+        println!("## {} edition: class keys and outside keys\n", capital(edition::name(edition)));
+        let mut rows = vec![Pair::titles(
+            ["verdict, class keys", "verdict, outside keys"],
+            ["check, class keys", "check, outside keys"],
+        )];
+        for (name, files) in lists::turned_files(edition) {
+            eprintln!("{}, {name}, class keys and outside keys", edition::name(edition));
+            rows.push(pairs::measure(&name, files.each_ref().map(|file| (edition, &file[..])), limit).line(limit));
+        }
+        table::print(&rows);
+    }
 }
 
 /// The time of the grounder gringo on ordinary and dense files, beside that of the archive.

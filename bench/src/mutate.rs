@@ -1,6 +1,7 @@
 //! Changes to readable files, for the search: records are moved, repeated, altered, or taken from another file.
 
-use crate::files::LONGEST;
+use crate::files::{some_class_key, LONGEST};
+use second::generate::rekey::rekey;
 use second::prng::Prng;
 use second::reader::body_length;
 use second::{read_in, Edition};
@@ -77,8 +78,14 @@ fn replace(records: &mut Records, from: usize, with: &[Vec<u8>], may_go: impl Fn
     statements.zip(with).for_each(|(record, new)| record.clone_from(new));
 }
 
-/// Gives one field of a statement the byte that another of its kind has there.
+/// Gives one field of a statement the byte that another of its kind has there, or a load or store the key of a class or of all
+/// names outside one.
 fn alter(r: &mut Prng, records: &mut Records, at: usize) {
+    if r.chance(1, 8) {
+        let key = some_class_key(r);
+        records[at] = rekey(&records[at], |_| key);
+        return;
+    }
     let other = r.below(records.len());
     if records[at][0] >= 16 && records[at][0] == records[other][0] {
         let field = r.between(1, records[at].len() - 1);

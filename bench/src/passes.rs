@@ -92,7 +92,7 @@ impl<const N: usize> Passes<'_, N> {
         Passes {
             program,
             edition,
-            names: (0..136).map(|key| program.names(key).collect()).collect(),
+            names: (0..=255).map(|key| program.names(key).collect()).collect(),
             functions: functions.collect(),
             returned_by,
             returned: vec![Set::EMPTY; edition.labels()],

@@ -3,7 +3,8 @@
 use bench::compared::checked;
 use bench::edition::name;
 use bench::files::filler::Filler;
-use bench::files::maze::{Maze, Rest, ORDERS};
+use bench::files::maze::{Maze, Order, Rest, ORDERS};
+use bench::files::turned::turned;
 use bench::files::worst::{worst, SHAPES};
 use bench::files::{dense, ordinary};
 use bench::{archive, hand, passes};
@@ -63,6 +64,22 @@ fn on_dense_files() {
     for edition in Edition::BOTH {
         for kind in dense::KINDS {
             agree(edition, &format!("dense, kind {kind}"), &dense::dense(edition, kind, 3));
+        }
+    }
+}
+
+/// A file has the same answer and table under class keys and under outside keys.
+#[test]
+fn on_files_under_outside_keys() {
+    for edition in Edition::BOTH {
+        let lures = Maze { size: 8192, variables: 30, ways: 5, order: Order::Backwards, rest: Rest::Lures };
+        let dense = [17, 18].map(|kind| dense::dense_under_class_keys(edition, kind, 3));
+        for (i, file) in dense.into_iter().chain([lures.file(edition, 3)]).enumerate() {
+            let outside = turned(&file);
+            assert_ne!(outside, file);
+            assert_eq!(hand::verdict(edition, &outside), hand::verdict(edition, &file));
+            agree(edition, &format!("class keys, {i}"), &file);
+            agree(edition, &format!("outside keys, {i}"), &outside);
         }
     }
 }

@@ -31,6 +31,12 @@ static const uint8_t bad_label[] = {2, 4, 1, 0};
 static const uint8_t last_label[] = {2, 255, 1, 0, 3, 255, 5, 2, 0, 255, 8, 2, 255, 6, 2};
 static const uint8_t label_64[] = {2, 64, 1, 0};
 static const uint8_t bad_value[] = {1, 32, 1};
+/* Name 4 is in classes 0 and 1. Label 5 holds label 6 under it; variable 3, which the guest is granted, is loaded from label 5. */
+#define LOADED_UNDER(key) {1, 4, 3, 2, 5, 1, 0, 2, 6, 1, 0, 5, 2, 0, 255, 5, 3, 0, 255, 8, 2, 5, 7, 5, 4, 6, 6, 3, 17, 0, 3, 2, key, 5}
+static const uint8_t outside_class_0[] = LOADED_UNDER(136);
+static const uint8_t outside_class_1[] = LOADED_UNDER(137);
+static const uint8_t outside_class_7[] = LOADED_UNDER(143);
+static const uint8_t bad_key[] = LOADED_UNDER(144);
 static const uint8_t declared_twice[] = {2, 5, 1, 0, 2, 5, 1, 0};
 static const uint8_t function_missing[] = {2, 5, 2, 0};
 static uint8_t longest[PEZVORAN_FILE_BYTES];
@@ -56,6 +62,10 @@ static const struct {
     {"last label", last_label, sizeof last_label, PEZVORAN_LEAKS, 255, 148},
     {"label 64", label_64, sizeof label_64, PEZVORAN_CONFINED, 0, 47},
     {"bad value", bad_value, sizeof bad_value, PEZVORAN_REFUSED, PEZVORAN_BAD_VALUE, 0},
+    {"outside class 0", outside_class_0, sizeof outside_class_0, PEZVORAN_CONFINED, 0, 52},
+    {"outside class 1", outside_class_1, sizeof outside_class_1, PEZVORAN_CONFINED, 0, 52},
+    {"outside class 7", outside_class_7, sizeof outside_class_7, PEZVORAN_CONFINED, 0, 152},
+    {"bad key", bad_key, sizeof bad_key, PEZVORAN_REFUSED, PEZVORAN_BAD_VALUE, 28},
     {"declared twice", declared_twice, sizeof declared_twice, PEZVORAN_REFUSED, PEZVORAN_DECLARED_TWICE, 4},
     {"function missing", function_missing, sizeof function_missing, PEZVORAN_REFUSED, PEZVORAN_FUNCTION_MISSING, 4},
     {"longest", longest, sizeof longest, PEZVORAN_LEAKS, 3, 45},

@@ -8,7 +8,7 @@
 use bench::archive::measured;
 use bench::edition::named;
 use bench::files::filler::{Filler, FILLERS};
-use bench::files::lists::{lures, mazes};
+use bench::files::lists::{lures, mazes, turned_files};
 use bench::files::worst::{worst, SHAPES};
 use bench::{mutate::mutated, passes, slowest};
 use second::prng::Prng;
@@ -56,10 +56,11 @@ fn show(start: Instant, lines: &[(u64, Vec<u8>)]) {
     println!("{:>5} s: {:?}", start.elapsed().as_secs(), lines.iter().map(|line| line.0).collect::<Vec<_>>());
 }
 
-/// The files of the last search, lures and mazes, and courses of every shape with every filler.
+/// The files of the last search, lures and mazes, files under outside keys, and courses of every shape with every filler.
 fn starts(edition: Edition, seed: u64) -> Vec<Vec<u8>> {
     let known = slowest::read(edition).into_iter().chain(lures(edition)).chain(mazes(edition));
-    let mut files: Vec<Vec<u8>> = known.map(|(_, file)| file).collect();
+    let outside = turned_files(edition).into_iter().map(|(_, [_, outside])| outside);
+    let mut files: Vec<Vec<u8>> = known.map(|(_, file)| file).chain(outside).collect();
     for shape in SHAPES {
         files
             .extend(FILLERS.into_iter().chain([Filler::Mixed]).map(|filler| worst(edition, shape, filler, true, seed)));

@@ -7,6 +7,7 @@
 use super::filler::{self, Filler};
 use super::LONGEST;
 use second::generate::writer::Writer;
+use second::keys::KEY_OF_CLASS;
 use second::prng::Prng;
 use second::Edition;
 use std::ops::RangeInclusive;
@@ -35,7 +36,7 @@ pub const SELF: u8 = 30;
 /// The name under which a runner holds the next.
 pub const NEXT: u8 = 31;
 /// The key for the names below `SELF`.
-pub const PASSED: u8 = 129;
+pub const PASSED: u8 = KEY_OF_CLASS + 1;
 
 pub struct Course {
     pub r: Prng,

@@ -2,6 +2,7 @@
 
 use super::LONGEST;
 use second::generate::writer::Writer;
+use second::keys::{EVERY_NAME, KEYS_END, KEY_OF_CLASS, KEY_OUTSIDE_CLASS};
 use second::prng::Prng;
 use second::Edition;
 
@@ -22,8 +23,21 @@ impl Labels {
 /// Kinds of statement a dense file can be full of; 0 stands for all of them.
 pub const KINDS: [u8; 6] = [0, 17, 18, 21, 22, 26];
 
-/// A full file, nine of ten statements of the kind.
+/// The first and the last key of classes 1 to 7, and of these and all outside keys.
+const CLASS_KEYS: (usize, usize) = (KEY_OF_CLASS as usize + 1, KEY_OUTSIDE_CLASS as usize - 1);
+const KEYS: (usize, usize) = (CLASS_KEYS.0, KEYS_END as usize - 1);
+
+/// A full file, nine of ten statements of the kind, with keys of every sort but single names.
 pub fn dense(edition: Edition, kind: u8, seed: u64) -> Vec<u8> {
+    dense_under(edition, kind, seed, |r| if r.chance(1, 2) { EVERY_NAME } else { between(r, KEYS) })
+}
+
+/// The same with keys of classes 1 to 7 alone.
+pub fn dense_under_class_keys(edition: Edition, kind: u8, seed: u64) -> Vec<u8> {
+    dense_under(edition, kind, seed, |r| between(r, CLASS_KEYS))
+}
+
+fn dense_under(edition: Edition, kind: u8, seed: u64, some_key: fn(&mut Prng) -> u8) -> Vec<u8> {
     let labels = Labels::of(edition);
     let (plain, functions) = (labels.plain, labels.functions);
     let mut r = Prng::new(seed.wrapping_mul(31).wrapping_add(kind as u64));
@@ -49,7 +63,7 @@ pub fn dense(edition: Edition, kind: u8, seed: u64) -> Vec<u8> {
     }
     while w.bytes.len() + 18 <= LONGEST {
         let kind = if kind == 0 || r.chance(1, 10) { r.between(16, 26) as u8 } else { kind };
-        statement(&mut r, &mut w, &labels, kind);
+        statement(&mut r, &mut w, &labels, kind, some_key);
     }
     w.fill(LONGEST);
     w.bytes
@@ -63,9 +77,9 @@ fn variable(r: &mut Prng) -> u8 {
     between(r, (2, 255))
 }
 
-fn statement(r: &mut Prng, w: &mut Writer, labels: &Labels, kind: u8) {
+fn statement(r: &mut Prng, w: &mut Writer, labels: &Labels, kind: u8, some_key: fn(&mut Prng) -> u8) {
     let k = if r.chance(1, 3) { 0 } else { between(r, labels.functions) };
-    let key = if r.chance(1, 2) { 128 } else { between(r, (129, 135)) };
+    let key = some_key(r);
     let (a, b, c) = (variable(r), variable(r), variable(r));
     let (plain, function) = (between(r, labels.plain), between(r, labels.functions));
     let six = [(); 6].map(|_| variable(r));

@@ -2,6 +2,7 @@
 
 use super::course::{Course, DEEP, DENSE, FRESH, FUNCTIONS, OPEN, PASSED, SINK};
 use second::generate::writer::Writer;
+use second::keys::EVERY_NAME;
 
 #[derive(Clone, Copy, PartialEq, Eq, Debug)]
 pub enum Filler {
@@ -51,7 +52,7 @@ fn record(course: &mut Course, filler: Filler, watching: bool) -> Vec<u8> {
     let object = if watching { course.r.pick(&[SINK, SINK, DENSE, a]) } else { OPEN };
     match filler {
         Filler::Copies => w.copy(0, SINK, a),
-        Filler::Loads => w.load(0, SINK, object, 128, FRESH),
+        Filler::Loads => w.load(0, SINK, object, EVERY_NAME, FRESH),
         Filler::Stores => w.store(0, OPEN, PASSED, a),
         Filler::Calls => w.call(0, SINK, FUNCTIONS, a, six),
         Filler::News => w.new_object(0, SINK, FUNCTIONS, SINK, DEEP, six),

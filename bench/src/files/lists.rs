@@ -3,12 +3,16 @@
 use super::filler::{Filler, FILLERS};
 use super::maze::{Maze, Order, Rest, ORDERS};
 use super::ordinary::{ordinary, ordinary_over};
+use super::turned::{turned, ADDED};
 use super::worst::{worst, Shape, SHAPES};
 use super::{dense, LONGEST};
 use second::Edition;
 use std::ops::RangeInclusive;
 
 pub type Named = (String, Vec<u8>);
+
+/// A file under class keys, and the same under outside keys.
+pub type Turned = (String, [Vec<u8>; 2]);
 
 /// In kB, for the groups that grow.
 const SIZES: [usize; 6] = [1, 2, 4, 8, 16, 32];
@@ -31,6 +35,14 @@ pub fn rising(edition: Edition) -> Vec<Named> {
 pub fn dense_files(edition: Edition, seeds: RangeInclusive<u64>) -> Vec<Named> {
     let named = |kind: u8, seed| (format!("dense, kind {kind}, {seed}"), dense::dense(edition, kind, seed));
     dense::KINDS.into_iter().flat_map(|kind| seeds.clone().map(move |seed| named(kind, seed))).collect()
+}
+
+/// Dense files full of loads and of stores, and lures, each under class keys and under outside keys.
+pub fn turned_files(edition: Edition) -> Vec<Turned> {
+    let dense = [17, 18].map(|kind| (format!("dense, kind {kind}"), dense::dense_under_class_keys(edition, kind, 1)));
+    let lures = maze(edition, LONGEST - ADDED, 205, 8, Order::Backwards, Rest::Lures);
+    let both = |(name, file): Named| (name, [file.clone(), turned(&file)]);
+    dense.into_iter().chain([lures]).map(both).collect()
 }
 
 /// Every shape with mixed filler and each of the seeds, and the longest course with every filler, idle ones in the small edition alone.

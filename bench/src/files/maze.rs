@@ -9,6 +9,7 @@
 //! lures' key, their chain and a label that they lack have all grown, but never in one row.
 
 use second::generate::writer::Writer;
+use second::keys::{KEY_OF_CLASS, KEY_OUTSIDE_CLASS};
 use second::prng::Prng;
 use second::Edition;
 
@@ -63,7 +64,7 @@ const CALLED: u8 = 3;
 const SEEN: [u8; 2] = [3, 4];
 const FEW: usize = 5;
 /// The keys of the lures: classes 1 to 7, all of the same names.
-const KEYS: std::ops::RangeInclusive<u8> = 129..=135;
+const KEYS: std::ops::RangeInclusive<u8> = KEY_OF_CLASS + 1..=KEY_OUTSIDE_CLASS - 1;
 const FIRST_FREE: usize = 5;
 
 impl Maze {

@@ -2,6 +2,7 @@
 //!
 //! One label in nine belongs to a part of the host that the rest never reads; its labels are forbidden.
 
+use super::some_class_key;
 use second::generate::writer::Writer;
 use second::prng::Prng;
 use second::Edition;
@@ -119,7 +120,7 @@ impl Scope<'_> {
     fn statement(&self, r: &mut Prng, w: &mut Writer) {
         let (k, y, a, b) = (self.k, self.some(r), self.some(r), self.some(r));
         let plain = r.pick(&self.part.plain);
-        let key = if r.chance(1, 12) { 128 + r.below(8) as u8 } else { name(r) };
+        let key = if r.chance(1, 12) { some_class_key(r) } else { name(r) };
         let six = [(); 6].map(|_| if r.chance(1, 3) { self.some(r) } else { 0 });
         match r.below(100) {
             0..=9 => w.copy(k, y, a),

@@ -24,7 +24,7 @@ impl<const N: usize> Solver<'_, N> {
             self.names_of_variable[v as usize] |= 1 << n;
             self.read(v, 0, n);
         }
-        let names: Vec<u32> = (0..=255).map(|key| if key < 136 { self.names(key) } else { 0 }).collect();
+        let names: Vec<u32> = (0..=255).map(|key| self.names(key)).collect();
         for record in self.program.all_records() {
             self.lay(record, &names);
         }

@@ -25,6 +25,7 @@ in_both_editions! {
     threads_with_the_stated_stack_call_at_the_same_time
     rows_are_found_by_what_they_stand_for
     a_table_kept_as_bytes_is_the_same_table
+    a_key_may_stand_for_all_names_outside_a_class
 }
 
 const ACCEPTED: Answer = Answer::Accepted { count: 0 };
@@ -137,6 +138,19 @@ fn a_table_kept_as_bytes_is_the_same_table<E: Edition>() {
     assert_eq!(kept.words(), table.words());
     assert!(Table::<E>::from_bytes(&bytes[1..]).is_none());
     assert!(Table::<E>::from_bytes(&[&bytes[..], &[0]].concat()).is_none());
+}
+
+/// Name 4 is in classes 0 and 1. Label 5 holds label 6 under it; variable 3, which the guest is granted, is loaded from label 5.
+fn a_key_may_stand_for_all_names_outside_a_class<E: Edition>() {
+    let file = |key| [1, 4, 3, 2, 5, 1, 0, 2, 6, 1, 0, 5, 2, 0, 255, 5, 3, 0, 255, 8, 2, 5, 7, 5, 4, 6, 6, 3, 17, 0, 3, 2, key, 5];
+    let mut table = Table::<E>::new();
+    for key in [136, 137] {
+        assert_eq!(verdict(&file(key), &mut table), Answer::Confined { facts: 52 });
+        assert!(table.guest().eq([3]));
+    }
+    assert_eq!(verdict(&file(143), &mut table), Answer::Confined { facts: 152 });
+    assert!(table.guest().eq([3, 6]));
+    assert_eq!(verdict(&file(144), &mut table), refused(5, 28));
 }
 
 #[test]
