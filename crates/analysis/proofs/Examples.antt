@@ -4,14 +4,14 @@
 use mathlib.Core.Path.{_≡_, refl}
 use mathlib.Core.List.{List, [], _∷_}
 use mathlib.Core.Bool.{cond}
-use Prim.Native.Nat.{ℕ, suc, _^_, _+_}
+use Prim.Native.Nat.{ℕ, zero, suc, _^_, _+_}
 use lib.ListN.{getD, set}
 use lib.Dec.{eqb}
 use Rattle.rows.specs.Row.{Row, number, variable, property, chain, thrown}
 use Rattle.rules.specs.Table.{Table, emptyTable}
 use Rattle.rules.specs.Rule.{Rule, chosen}
 use Rattle.rules.specs.Round.{round}
-use Rattle.format.specs.Sheet.{Sheet, start, withLabel, withFunction}
+use Rattle.format.specs.Sheet.{Sheet, start, withMask, withLabel, withFunction}
 use Rattle.program.specs.Statement as say
 use Rattle.program.specs.Program.{Program, statements, namesOf, returnsOf}
 use Rattle.analysis.specs.Rules.{ruleOf, chainRule}
@@ -48,6 +48,19 @@ uses : say.Statement → List (Row × ℕ) → List (ℕ × ℕ)
 unfolding program adds
 uses a fs = adds (ruleOf (program ((0, say.return 6 4) ∷ (3, say.return 0 15) ∷ [])) a) fs
 
+-- the program with every name in classes 0 and 1 but for those given, each with its mask
+listing : List (ℕ × ℕ) → Program
+unfolding sheet
+listing ns = record { sheet = masked ns (inBoth 32); host = []; guests = [] }
+  where
+    inBoth : ℕ → Sheet
+    inBoth zero = sheet
+    inBoth (suc n) = withMask (inBoth n) n 3
+
+    masked : List (ℕ × ℕ) → Sheet → Sheet
+    masked [] s = s
+    masked (n ∷ ns) s = withMask (masked ns s) (n .0) (n .1)
+
 -- ---- the rules of properties
 
 -- the object 10 comes to hold w, which is 5; 13 gets what w's chain has under name 7, and what the chain of the object's label 1 has
@@ -63,6 +76,26 @@ store-adds :
     uses (say.store 0 10 7 11) ((variable 10, 2 ^ 1 + 2 ^ 5) ∷ (variable 11, 2 ^ 2) ∷ []) ≡ (number 8 (property 5 7), 2 ^ 2) ∷ []
 unfolding uses namesOf
 store-adds = refl
+
+-- under the key of the names outside class 1, where all names but 7 and 30 are of it
+store-outside-adds :
+    adds (ruleOf (listing ((7, 5) ∷ (30, 1) ∷ [])) (say.store 0 10 137 11)) ((variable 10, 2 ^ 5) ∷ (variable 11, 2 ^ 2) ∷ [])
+    ≡ (number 8 (property 5 7), 2 ^ 2) ∷ (number 8 (property 5 30), 2 ^ 2) ∷ []
+unfolding adds listing namesOf chosen
+store-outside-adds = refl
+
+load-outside-adds :
+    adds (ruleOf (listing ((7, 5) ∷ [])) (say.load 0 13 10 137 5))
+    ((chain 5, 2 ^ 5) ∷ (property 5 7, 2 ^ 6) ∷ (property 5 30, 2 ^ 2) ∷ [])
+    ≡ (10, 2 ^ 5) ∷ (13, 2 ^ 6) ∷ []
+unfolding adds listing namesOf chosen
+load-outside-adds = refl
+
+-- under 136 nothing is loaded, but w is held
+load-under-no-name-adds :
+    adds (ruleOf (listing ((7, 5) ∷ [])) (say.load 0 13 10 136 5)) ((chain 5, 2 ^ 5) ∷ (property 5 7, 2 ^ 6) ∷ []) ≡ (10, 2 ^ 5) ∷ []
+unfolding adds listing namesOf chosen
+load-under-no-name-adds = refl
 
 -- ---- the rules of functions
 

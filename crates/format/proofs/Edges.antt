@@ -33,6 +33,10 @@ variable = 5 ∷ 2 ∷ 0 ∷ 255 ∷ []
 abbrev pub load : ℕ → List ℕ
 load k = plain ++ 17 ∷ 0 ∷ 0 ∷ 0 ∷ k ∷ 5 ∷ []
 
+-- and a store
+abbrev pub store : ℕ → List ℕ
+store k = 18 ∷ 0 ∷ 0 ∷ k ∷ 0 ∷ []
+
 -- ---- by number
 
 pub nothing-refused : Says ([] ∷ plain ∷ function ∷ variable ∷ (3 ∷ 3 ∷ 3 ∷ 3 ∷ []) ∷ []) ((0, 0) ∷ (0, 4) ∷ (0, 13) ∷ (0, 4) ∷ (0, 4) ∷ [])
@@ -62,8 +66,8 @@ unfolding saidOf
 bad-labels = refl
 
 -- 5: keys 31, 128 and 143 are good, 32, 127 and 144 are not (request 01: "136 now reads and 144 is refused 5")
-pub bad-keys : Says (load 31 ∷ load 32 ∷ load 127 ∷ load 128 ∷ load 135 ∷ load 136 ∷ load 143 ∷ load 144 ∷ [])
-    ((0, 10) ∷ (5, 4) ∷ (5, 4) ∷ (0, 10) ∷ (0, 10) ∷ (0, 10) ∷ (0, 10) ∷ (5, 4) ∷ [])
+pub bad-keys : Says (load 31 ∷ load 32 ∷ load 127 ∷ load 128 ∷ load 135 ∷ load 136 ∷ load 143 ∷ load 144 ∷ store 31 ∷ store 32 ∷ store 143 ∷ store 144 ∷ [])
+    ((0, 10) ∷ (5, 4) ∷ (5, 4) ∷ (0, 10) ∷ (0, 10) ∷ (0, 10) ∷ (0, 10) ∷ (5, 4) ∷ (0, 5) ∷ (5, 0) ∷ (0, 5) ∷ (5, 0) ∷ [])
 unfolding saidOf
 bad-keys = refl
 

@@ -16,7 +16,7 @@ use Rattle.rows.specs.Run.{number}
 use Rattle.lent.specs.Table.{place}
 use Rattle.lent.specs.Stored.{Stored}
 use Rattle.lent.proofs.Views.{other-row}
-use Rattle.kept.specs.Pairs.{pairCount, keptSet, keptWith, Stays, Refreshed, Cleared, Subset, Asks, part, held, Leaves, some, Learns, wider, anew}
+use Rattle.kept.specs.Pairs.{pairCount, keptSet, keptWith, Stays, Refreshed, Cleared, Subset, Asks, part, held, Spares, fewer, Leaves, some, Learns, wider, anew}
 
 pub pair-small : (wide : Bool) (pair : ℕ) → pair < pairCount wide → pair < 128
 pair-small true pair h = omega arith
@@ -89,6 +89,9 @@ module _ {wide b : Bool} {keeps : List ℕ} {pair a v : ℕ} (i : pair < pairCou
   pub asks-held : {s have base rest : ℕ} → b ≡ eqb (difference v have) 0 → b ≡ true → base ≡ 0 → rest ≡ difference s a
       → Asks wide keeps pair s have base rest false
   asks-held {s} {have} test h z r = held i (rw f at (within-test v have test h)) z (rw (← e) r)
+
+  pub spares-held : {s have rest : ℕ} → b ≡ eqb (difference v have) 0 → b ≡ true → rest ≡ difference s a → Spares wide keeps pair s have rest
+  spares-held {s} {have} test h r = fewer (rw f at (within-test v have test h)) (rw (← e) r)
 
   pub leaves-some : {s x rest : ℕ} → b ≡ eqb (difference x v) 0 → b ≡ true → rest ≡ difference s a → Leaves wide keeps pair s x rest true
   leaves-some {s} {x} test h r = some i (rw f at (within-test x v test h)) (rw (← e) r)

@@ -12,7 +12,7 @@ use Rattle.rules.specs.Table.{Table}
 use Rattle.program.specs.Program.{Program}
 use Rattle.uses.specs.Use.{tableOf}
 use Rattle.uses.specs.Gather.{Gathered}
-use Rattle.kept.specs.Pairs.{pairCount, keptSet, keptWith, Asks, part, held, all, Answers}
+use Rattle.kept.specs.Pairs.{pairCount, keptSet, keptWith, Asks, part, held, all, Spares, fewer, whole, Answers}
 use Rattle.kept.specs.Promise.{Slot, slotOf, Tells, Unites, Union, Promise, Remembers, Answer, Tellings}
 use Rattle.kept.proofs.Pairs.{never}
 use Rattle.kept.proofs.Remembers.{tells-monotone, takes-nothing, promised, remembers-set}
@@ -48,6 +48,37 @@ module _ {F : Table → ℕ → ℕ → Type 0} {old t : Table} {s more : ℕ} (
   -- all was read
   gathered-all : Gathered F t t s more → Gathered F old t s more
   gathered-all g = record { source = g .source; all = λ l m h i. g .all l m h (w l m i) }
+
+-- ---- where there is no pair
+
+-- all was read
+pub tellings-whole : {wide : Bool} {have r : ℕ} {keeps : List ℕ} (slot : Slot) (p : Program) (t : List ℕ) (s : ℕ)
+    → Gathered (Tells wide p slot) (tableOf wide t) (tableOf wide t) s r → Tellings wide p slot t s have r keeps keeps
+tellings-whole {wide} slot p t s read o old since remembers = (
+  record { source = read .source; all = λ l m h j. inl (read .all l m h (tells-monotone wide p slot (tableOf wide old) (tableOf wide t) since l m j)) },
+  remembers,
+)
+
+-- labels were left out by the pair of a slot that tells more
+pub tellings-spared : {wide : Bool} {pair s have rest r : ℕ} {keeps : List ℕ} {wider : Slot} (slot : Slot) (p : Program) (t : List ℕ) → Union wider
+    → pair < pairCount wide → slotOf pair ≡ wider → ((a : Table) (l m : ℕ) → Tells wide p slot a l m → Tells wide p wider a l m)
+    → Spares wide keeps pair s have rest → Gathered (Tells wide p slot) (tableOf wide t) (tableOf wide t) rest r → Tellings wide p slot t s have r keeps keeps
+tellings-spared {wide} {s = s} slot p t looked i here within (whole e) read o old since remembers = tellings-whole slot p t s (rw e at read) o old since remembers
+tellings-spared {wide} {pair} {s} {have} {rest} {r} {keeps} {wider} slot p t looked i here within (fewer holds e) read o old since remembers = (
+  record {
+    source = λ m h. (let f = read .source m h in (f .0, on-difference s a (f .0) (rw e at (f .1)), f .2));
+    all = λ l m h j.
+        ⊎-elim (λ q. inl (read .all l m (rw e q) (tells-monotone wide p slot (tableOf wide old) (tableOf wide t) since l m j)))
+        (λ q. inr (holds m (kept .all l m q (within (tableOf wide old) l m j)))) (difference-on s a l h);
+  },
+  remembers,
+)
+  where
+    a : ℕ
+    a = keptSet wide keeps pair
+
+    kept : Unites wide p wider old t a (keptWith wide keeps pair)
+    kept = promised here i remembers .union looked
 
 -- ---- the answer
 

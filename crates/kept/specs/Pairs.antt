@@ -52,6 +52,11 @@ pub data Asks (wide : Bool) (keeps : List ℕ) (pair s have base rest : ℕ) : B
       → Asks wide keeps pair s have base rest false
   all : {fresh : Bool} → (fresh ≡ true → pair < pairCount wide) → base ≡ 0 → rest ≡ s → Asks wide keeps pair s have base rest fresh
 
+-- Which labels of s may tell what `have` lacks: those of the kept set do not, where the kept union is held already.
+pub data Spares (wide : Bool) (keeps : List ℕ) (pair s have rest : ℕ) : Type 0 where
+  fewer : Subset (keptWith wide keeps pair) have → rest ≡ difference s (keptSet wide keeps pair) → Spares wide keeps pair s have rest
+  whole : rest ≡ s → Spares wide keeps pair s have rest
+
 -- the answer r: what was kept and what was read; the pair may have become s and r
 pub record Answers (wide : Bool) (pair s base more r : ℕ) (fresh : Bool) (before after : List ℕ) : Type 0 where
   pub joined : r ≡ union base more

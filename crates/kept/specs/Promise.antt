@@ -29,7 +29,8 @@ pub data Slot : Type 0 where
   stored : ℕ → Slot  -- spread: the properties of labels under a key
   unused : Slot
 
--- the slot of a pair: where there is room for 32 pairs only, those of the names outside a class and of single names other than 1, 2 and 3 are left out
+-- the slot of a pair: where there is room for 32 pairs only, those of single names other than 1, 2 and 3 and of the names outside a class are
+-- left out
 unfoldable pub slotOf : ℕ → Slot
 slotOf q =
     cond (ltb q 4) chains

@@ -7,12 +7,12 @@ ghost use Prim.Native.Nat.{ℕ, _≤_, _<_};
 ghost use Rattle.layout.specs.Key.{Key};
 ghost use Rattle.sets.specs.Value.{value};
 ghost use Rattle.program.specs.Program.{Program};
-ghost use Rattle.kept.specs.Pairs.{pairCount, keptSet, keptWith, Refreshed, Cleared, Asks, Answers, Leaves, Learns};
+ghost use Rattle.kept.specs.Pairs.{pairCount, keptSet, keptWith, Refreshed, Cleared, Asks, Spares, Answers, Leaves, Learns};
 ghost use Rattle.kept.specs.Promise.{under, stored, slotOf, Remembers};
 use sets::Set;
 
 // Whether there is room for a pair.
-fn is_kept(wide: bool, pair: usize) -> bool
+pub fn is_kept(wide: bool, pair: usize) -> bool
     ensures { λ r. ⌜ (r ≡ true → pair < pairCount wide) ⌝ }
 {
     if wide {
@@ -88,6 +88,19 @@ pub fn ask(keeps: &[u64; 256], wide: bool, pair: usize, s: Set, have: Set) -> As
         rest: s,
         fresh: sets::size(wide, a) <= sets::size(wide, s),
     }
+}
+
+// The labels of s that may tell what `have` lacks: those of the kept set do not, where the kept union is held already.
+pub fn spare(keeps: &[u64; 256], wide: bool, pair: usize, s: Set, have: Set) -> Set
+    requires { ⌜ pair < pairCount wide ⌝ }
+    ensures { λ r. ⌜ Spares wide (now (keeps .entry)) pair (value wide s) (value wide have) (value wide r) ⌝ }
+{
+    let v = with_of(keeps, wide, pair);
+    if sets::is_within(wide, v, have) {
+        let a = set_of(keeps, wide, pair);
+        return sets::without(wide, s, a);
+    }
+    s
 }
 
 // The union, once `more` was read of the rest; a large one is kept.
@@ -189,9 +202,9 @@ fn clear(keeps: &mut [u64; 256], wide: bool, from: usize, to: usize)
 pub fn forget(keeps: &mut [u64; 256], wide: bool)
     ensures { λ _. ⌜ ((o : ℕ) (p : Program) (old t : List ℕ) → Remembers wide o p old t (now (keeps .entry)) → Remembers wide o p t t (now (keeps .exit))) ⌝ }
 {
-    clear(keeps, wide, 0, 17);
+    clear(keeps, wide, 0, INPUTS);
     if !wide {
-        clear(keeps, wide, 32, 72);
+        clear(keeps, wide, UNDER_NAMES, STORED_OUTSIDE);
     }
 }
 
@@ -204,6 +217,19 @@ pub const HANDED: usize = 5;
 
 pub const INPUTS: usize = 17;
 
+// Under the names of class 0, every name; those of classes 1 to 7 follow. So for names outside a class, and for single names.
+pub const UNDER: usize = 6;
+
+const UNDER_NAMES: usize = 32;
+
+const UNDER_OUTSIDE: usize = 64;
+
+pub const STORED: usize = 24;
+
+const STORED_OUTSIDE: usize = 72;
+
+const STORED_NAMES: usize = 80;
+
 // The pair for the properties under a key.
 pub fn under_pair(key: u8) -> usize
     requires { ⌜ Key key ⌝ }
@@ -211,19 +237,19 @@ pub fn under_pair(key: u8) -> usize
     ensures bound { λ r. ⌜ r < 128 ⌝ }
 {
     if layout::OUTSIDE <= key {
-        return 64 + ((key - layout::OUTSIDE) as usize);
+        return UNDER_OUTSIDE + ((key - layout::OUTSIDE) as usize);
     }
     if layout::INSIDE <= key {
-        return 6 + ((key - layout::INSIDE) as usize);
+        return UNDER + ((key - layout::INSIDE) as usize);
     }
     let k = key as usize;
     if k == 0 {
-        return 32;
+        return UNDER_NAMES;
     }
     if k < 4 {
         return 13 + k;
     }
-    32 + k
+    UNDER_NAMES + k
 }
 
 // The pair for values that are stored under a key.
@@ -233,10 +259,10 @@ pub fn stored_pair(key: u8) -> usize
     ensures bound { λ r. ⌜ r < 128 ⌝ }
 {
     if layout::OUTSIDE <= key {
-        return 72 + ((key - layout::OUTSIDE) as usize);
+        return STORED_OUTSIDE + ((key - layout::OUTSIDE) as usize);
     }
     if layout::INSIDE <= key {
-        return 24 + ((key - layout::INSIDE) as usize);
+        return STORED + ((key - layout::INSIDE) as usize);
     }
-    80 + (key as usize)
+    STORED_NAMES + (key as usize)
 }

@@ -1,4 +1,4 @@
--- Key bytes. Assumes nothing.
+-- Key bytes: which bytes are keys, and where those of classes begin and those of the names outside them. Assumes nothing.
 use mathlib.Core.Path.{_≡_}
 use mathlib.Core.Bool.{Bool, true, _&&_, _||_}
 use Prim.Native.Nat.{ℕ}

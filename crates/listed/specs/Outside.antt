@@ -2,39 +2,52 @@
 use mathlib.Core.Path.{_≡_, refl}
 use Rattle.answer.specs.Outcome.{confined, leaks, refused}
 use Rattle.listed.specs.Listed.{verdictOf}
-use Rattle.listed.specs.OutsideFiles.{loadedUnder, hiddenField, openField, wrappedUnderNoName}
+use Rattle.listed.specs.OutsideFiles.{loadedUnder, hiddenField, openField, wrappedUnderNoName, storedUnder}
 
 -- name 4 is of class 1, and is outside class 7
-pub loaded-inside : verdictOf (loadedUnder 129) ≡ confined 152
+pub loaded-inside-line : verdictOf (loadedUnder 129) ≡ confined 152
 unfolding verdictOf loadedUnder
-loaded-inside = refl
+loaded-inside-line = refl
 
-pub loaded-outside-seven : verdictOf (loadedUnder 143) ≡ confined 152
+pub loaded-outside-seven-line : verdictOf (loadedUnder 143) ≡ confined 152
 unfolding verdictOf loadedUnder
-loaded-outside-seven = refl
+loaded-outside-seven-line = refl
 
-pub loaded-outside-one : verdictOf (loadedUnder 137) ≡ confined 52
+pub loaded-outside-one-line : verdictOf (loadedUnder 137) ≡ confined 52
 unfolding verdictOf loadedUnder
-loaded-outside-one = refl
+loaded-outside-one-line = refl
 
 -- "so 136 means no name"; "136 now reads and 144 is refused 5"
-pub loaded-under-no-name : verdictOf (loadedUnder 136) ≡ confined 52
+pub loaded-under-no-name-line : verdictOf (loadedUnder 136) ≡ confined 52
 unfolding verdictOf loadedUnder
-loaded-under-no-name = refl
+loaded-under-no-name-line = refl
 
-pub no-key : verdictOf (loadedUnder 144) ≡ refused 5 28
+pub no-key-line : verdictOf (loadedUnder 144) ≡ refused 5 28
 unfolding verdictOf loadedUnder
-no-key = refl
+no-key-line = refl
 
 -- confined by the list alone: with the name off the list the journal is the guest's
-pub hidden : verdictOf hiddenField ≡ confined 52
+pub hidden-line : verdictOf hiddenField ≡ confined 52
 unfolding verdictOf hiddenField
-hidden = refl
+hidden-line = refl
 
-pub unlisted : verdictOf openField ≡ leaks 5 3 152
+pub unlisted-line : verdictOf openField ≡ leaks 5 3 152
 unfolding verdictOf openField
-unlisted = refl
+unlisted-line = refl
 
-pub wrapped : verdictOf wrappedUnderNoName ≡ leaks 5 3 148
+pub wrapped-line : verdictOf wrappedUnderNoName ≡ leaks 5 3 148
 unfolding verdictOf wrappedUnderNoName
-wrapped = refl
+wrapped-line = refl
+
+-- a store of the journal under the names outside class 1, of which name 4 is one or is not; the guest gets what is under name 4
+pub stored-inside-line : verdictOf (storedUnder 137 3) ≡ confined 117
+unfolding verdictOf storedUnder
+stored-inside-line = refl
+
+pub stored-outside-line : verdictOf (storedUnder 137 5) ≡ leaks 5 3 219
+unfolding verdictOf storedUnder
+stored-outside-line = refl
+
+pub stored-under-no-name-line : verdictOf (storedUnder 136 5) ≡ confined 55
+unfolding verdictOf storedUnder
+stored-under-no-name-line = refl

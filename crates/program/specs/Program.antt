@@ -81,10 +81,11 @@ maskOf s n = cond (eqb (getD (s .masks) n 0) 0) 1 (getD (s .masks) n 0)
 abbrev pub inClass : Sheet → ℕ → ℕ → Bool
 inClass s c n = eqb (maskOf s n / 2 ^ c % 2) 1
 
+-- "all names outside class c" (request 01)
 abbrev pub outsideClass : Sheet → ℕ → ℕ → Bool
 outsideClass s c n = not (inClass s c n)
 
--- "A key byte is a name, or 128 + c for all names of class c"; "Key bytes 136 + c": "all names outside class c" (request 01)
+-- "A key byte is a name, or 128 + c for all names of class c"; "Key bytes 136 + c, for c from 0 to 7, take this meaning" (request 01)
 unfoldable pub namesOf : Sheet → ℕ → List ℕ
 unfolding chosen
 namesOf s key =

@@ -1,5 +1,5 @@
--- The range of each byte of a record's body, as far as rows are computed from it: labels below L, names below 32,
--- keys. L is the number of labels. A readable file keeps to it (proofs/Ranges.antt). Assumes nothing.
+-- The range of each byte of a record's body, as far as rows are computed from it: labels below L, names below 32;
+-- a key's byte is a key. L is the number of labels. A readable file keeps to it (proofs/Ranges.antt). Assumes nothing.
 use mathlib.Core.Path.{_≡_}
 use mathlib.Core.List.{List, [], _∷_}
 use Prim.Native.Nat.{ℕ, suc, _<_}

@@ -83,31 +83,59 @@ module _ {wide : Bool} {o : ℕ} {p : Program} where
           let a = tell o old since m .0 in
           used-join y v i (λ l h z. (z, refl, a .source l h)) (λ q l h. (h .0, h .1, held l (a .all (h .2 .0) l (h .2 .1) (h .2 .2)))) j
 
-  -- a set, spread to the rows that a slot's labels take: those that were passed over hold it
-  pub applies-spread : {pair s x rest least : ℕ} {G : ℕ → ℕ → Type 0} {t u keeps kept : List ℕ} {skip grew : Bool} (slot : Slot) → Apart wide o
-      → (Union slot → ⊥) → (pair < pairCount wide → slotOf pair ≡ slot) → ((l r : ℕ) → On s l → G l r → Takes wide p slot l r)
-      → ((l r : ℕ) → On s l → Takes wide p slot l r → G l r) → Leaves wide keeps pair s x rest skip → SpreadTo wide o (takenBy G rest) x t u grew least
-      → Learns wide pair s rest least keeps kept skip → Applies wide o p (spreading wide p slot s x) t keeps u kept grew
-  applies-spread {pair} {s} {x} {rest} {least} {G} {t} {u} {keeps} {kept} {skip} {grew} slot w meets here to from leaves done learns =
-      record {
-        uses = used;
-        memory =
-            λ old since m. learned here meets leaves learns (λ l r q h takes z a. done .holds r q (l, h, from l r (part leaves l h) takes) z a)
-            (remembers-on w (used old since m .only) m);
-      }
-    where
-      part : {skip : Bool} → Leaves wide keeps pair s x rest skip → (l : ℕ) → On rest l → On s l
-      part (some i j e) l h = on-difference s (keptSet wide keeps pair) l (rw e at h)
-      part (every e) l h = rw e at h
+-- ---- a set, spread to the rows that a slot's labels take
 
-      used : (old : List ℕ) → Since wide old t → Remembers wide o p old t keeps → Used wide o (spreading wide p slot s x) old t u grew
-      used old since m =
-          record {
-            all = λ r l h. all r l h (left-holds here leaves m (h .0) r l (h .1) (h .2 .0) (h .2 .1) (h .2 .2));
-            only = reached-for w (λ a i r l h. (h .0 .0, part leaves (h .0 .0) (h .0 .1), (to (h .0 .0) r (part leaves (h .0 .0) (h .0 .1)) (h .0 .2), h .1, h .2))) (done .used .only);
-            says = done .used .says;
-          }
-        where
-          all : (r l : ℕ) (h : spreading wide p slot s x (tableOf wide old) r l) → On rest (h .0) ⊎ Has (tableAt wide o t) r l → Has (tableAt wide o u) r l
-          all r l h (inl a) = done .used .all r l ((h .0, a, from (h .0) r (h .1) (h .2 .0)), h .2 .1, h .2 .2)
-          all r l h (inr a) = reached-keeps (done .used .only) r l a
+left-part : {wide : Bool} {keeps : List ℕ} {pair s x rest : ℕ} {skip : Bool} → Leaves wide keeps pair s x rest skip → (l : ℕ) → On rest l → On s l
+left-part {wide} {keeps} {pair} {s} (some i j e) l h = on-difference s (keptSet wide keeps pair) l (rw e at h)
+left-part (every e) l h = rw e at h
+
+-- it was given to the labels of `rest`, and the rows of the others hold it
+used-spread : {wide : Bool} {o : ℕ} (p : Program) (s rest : ℕ) {x least : ℕ} {G : ℕ → ℕ → Type 0} {old t u : List ℕ} {grew : Bool} (slot : Slot) → Apart wide o
+    → ((l r : ℕ) → On s l → G l r → Takes wide p slot l r) → ((l r : ℕ) → On s l → Takes wide p slot l r → G l r)
+    → SpreadTo wide o (takenBy G rest) x t u grew least → ((l : ℕ) → On rest l → On s l)
+    → ((l r m : ℕ) → On s l → Takes wide p slot l r → 0 < r → On x m → On rest l ⊎ Has (tableAt wide o t) r m)
+    → Used wide o (spreading wide p slot s x) old t u grew
+used-spread {wide} {o} p s rest {x} {old = old} {t = t} {u = u} slot w to from done part passed =
+    record {
+      all = λ r l h. all r l h (passed (h .0) r l (h .1) (h .2 .0) (h .2 .1) (h .2 .2));
+      only = reached-for w (λ a i r l h. (h .0 .0, part (h .0 .0) (h .0 .1), (to (h .0 .0) r (part (h .0 .0) (h .0 .1)) (h .0 .2), h .1, h .2))) (done .used .only);
+      says = done .used .says;
+    }
+  where
+    all : (r l : ℕ) (h : spreading wide p slot s x (tableOf wide old) r l) → On rest (h .0) ⊎ Has (tableAt wide o t) r l → Has (tableAt wide o u) r l
+    all r l h (inl a) = done .used .all r l ((h .0, a, from (h .0) r (h .1) (h .2 .0)), h .2 .1, h .2 .2)
+    all r l h (inr a) = reached-keeps (done .used .only) r l a
+
+module _ {wide : Bool} {o : ℕ} {p : Program} {x least : ℕ} {G : ℕ → ℕ → Type 0} {t u keeps : List ℕ} {grew : Bool} (slot : Slot) (w : Apart wide o) where
+  -- by the pair of the slot, which may learn
+  pub applies-spread : {pair s rest : ℕ} {kept : List ℕ} {skip : Bool} → (Union slot → ⊥) → (pair < pairCount wide → slotOf pair ≡ slot)
+      → ((l r : ℕ) → On s l → G l r → Takes wide p slot l r) → ((l r : ℕ) → On s l → Takes wide p slot l r → G l r) → Leaves wide keeps pair s x rest skip
+      → SpreadTo wide o (takenBy G rest) x t u grew least → Learns wide pair s rest least keeps kept skip
+      → Applies wide o p (spreading wide p slot s x) t keeps u kept grew
+  applies-spread {s = s} {rest = rest} meets here to from leaves done learns =
+      record {
+        uses = λ old since m. used-spread p s rest slot w to from done (left-part leaves) (left-holds here leaves m);
+        memory =
+            λ old since m. learned here meets leaves learns (λ l r q h takes z a. done .holds r q (l, h, from l r (left-part leaves l h) takes) z a)
+            (remembers-on w (done .used .only) m);
+      }
+
+  -- by the pair of a slot that takes more rows
+  pub applies-passed : {pair s rest : ℕ} {skip : Bool} (wider : Slot) → (pair < pairCount wide → slotOf pair ≡ wider)
+      → ((l r : ℕ) → Takes wide p slot l r → Takes wide p wider l r) → ((l r : ℕ) → On s l → G l r → Takes wide p slot l r)
+      → ((l r : ℕ) → On s l → Takes wide p slot l r → G l r) → Leaves wide keeps pair s x rest skip → SpreadTo wide o (takenBy G rest) x t u grew least
+      → Applies wide o p (spreading wide p slot s x) t keeps u keeps grew
+  applies-passed {s = s} {rest = rest} wider here more to from leaves done =
+      record {
+        uses = λ old since m. used-spread p s rest slot w to from done (left-part leaves) (λ l r q h takes. left-holds here leaves m l r q h (more l r takes));
+        memory = λ old since m. remembers-on w (done .used .only) m;
+      }
+
+  -- by no pair
+  pub applies-whole : (s : ℕ) → ((l r : ℕ) → On s l → G l r → Takes wide p slot l r) → ((l r : ℕ) → On s l → Takes wide p slot l r → G l r)
+      → SpreadTo wide o (takenBy G s) x t u grew least → Applies wide o p (spreading wide p slot s x) t keeps u keeps grew
+  applies-whole s to from done =
+      record {
+        uses = λ old since m. used-spread p s s slot w to from done (λ l h. h) (λ l r q h takes z a. inl h);
+        memory = λ old since m. remembers-on w (done .used .only) m;
+      }

@@ -1,15 +1,17 @@
 -- Unions of rows are what slots tell. Assumes nothing.
-use mathlib.Core.Path.{_≡_}
+use mathlib.Core.Path.{_≡_, refl}
+use mathlib.Core.Logic.{inl, inr}
 use mathlib.Core.Bool.{Bool}
-use mathlib.Core.List.{List}
+use mathlib.Core.List.{List, List·Memᴰ}
 use Prim.Native.Nat.{ℕ, _+_, _*_}
 use native.Mathlib.Omega.{arith}
-use Rattle.words.proofs.Bits.{On, on-difference}
+use Rattle.words.proofs.Bits.{On, on-difference, difference-on, empty-off}
 use Rattle.rows.specs.Edition.{labels}
 use Rattle.rows.specs.Row.{number, chain, thrown}
-use Rattle.layout.specs.Key.{Key}
+use Rattle.words.specs.Words.{difference}
+use Rattle.layout.specs.Key.{inside, Key}
 use Rattle.rules.specs.Table.{Table}
-use Rattle.program.specs.Program.{Program}
+use Rattle.program.specs.Program.{Program, namesOf}
 use Rattle.uses.specs.Gather.{rowFrom, underNames, Gathered}
 use Rattle.uses.specs.Spread.{namedRows}
 use Rattle.kept.specs.Pairs.{keptSet, Asks, part, held, all}
@@ -43,6 +45,22 @@ module _ (wide : Bool) (p : Program) {host : List ℕ} (key names : ℕ) (lays :
 
   pub takes-named : Takes wide p (stored key) l r → namedRows names l r
   takes-named h = (h .0, rw e (lays .names key (h .0) k .1 (h .1)), h .2)
+
+-- names that are all of class 0
+module _ {wide : Bool} {p : Program} {host : List ℕ} (key names : ℕ) (lays : Lays wide p host) (k : Key key) (e : names ≡ namesIn host key)
+    (within : difference names (namesIn host inside) ≡ 0) where
+  named-every : (n : ℕ) → List·Memᴰ n (namesOf (p .sheet) key) → List·Memᴰ n (namesOf (p .sheet) inside)
+  named-every n h =
+      elim (difference-on names (namesIn host inside) n (rw e (lays .names key n k .1 h))) [
+        | inl o ↦ absurd (empty-off n (rw within at o))
+        | inr o ↦ lays .names inside n refl .0 o
+      ]
+
+  pub under-every : (a : Table) (l m : ℕ) → Tells wide p (under key) a l m → Tells wide p (under inside) a l m
+  under-every a l m h = (h .0, named-every (h .0) (h .1), h .2)
+
+  pub stored-every : (l r : ℕ) → Takes wide p (stored key) l r → Takes wide p (stored inside) l r
+  stored-every l r h = (h .0, named-every (h .0) (h .1), h .2)
 
 -- what functions hand back
 pub handed-told : {t : Table} {s r : ℕ} (wide : Bool) (p : Program) (a : Returns) → ReturnsOf p a → Functions p s → Gathered (handedBack a) t t s r

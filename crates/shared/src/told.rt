@@ -1,15 +1,18 @@
 // What the labels of a set tell, as much of it as is not held already.
-ghost use Prim.Native.Nat.{_≤_, _<_};
+ghost use mathlib.Core.Path.{_≡_};
+ghost use mathlib.Core.Bool.{true};
+ghost use Prim.Native.Nat.{ℕ, _≤_, _<_};
 ghost use lib.ListN.{length};
+ghost use Rattle.words.specs.Words.{difference};
 ghost use Rattle.rows.specs.Edition.{labels};
 ghost use Rattle.rows.specs.Row.{thrown, number, rowCount};
-ghost use Rattle.layout.specs.Key.{Key};
+ghost use Rattle.layout.specs.Key.{inside, Key};
 ghost use Rattle.program.specs.Program.{Program};
 ghost use Rattle.sets.specs.Value.{value};
 ghost use Rattle.lent.specs.Table.{wordCount};
 ghost use Rattle.uses.specs.Use.{Lent};
 ghost use Rattle.kept.specs.Promise.{chains, throws, handed, under, Tellings};
-ghost use Rattle.host.specs.Lays.{Lays, ReturnsOf, Functions, arrays};
+ghost use Rattle.host.specs.Lays.{namesIn, Lays, ReturnsOf, Functions, arrays};
 ghost use Rattle.shared.specs.Apply.{Applies, gathering};
 use rows::Label;
 use rows::Var;
@@ -47,6 +50,34 @@ fn told_throws(t: &[u64], wide: bool, keeps: &mut [u64; 256], s: Set, have: Set)
     kept::answer(keeps, wide, pair, s, asked, more)
 }
 
+// Every name of the word is of class 0, which is so in every file that can be read.
+pub fn of_class_zero(host: &[u64; 16], names: u64) -> bool
+    ensures { λ r. ⌜ (r ≡ true → difference names (namesIn (now (host .entry)) inside) ≡ 0) ⌝ }
+{
+    words::without(names, host::names(host, layout::INSIDE)) == 0
+}
+
+// The properties of the labels of s under a key for which there is no room for a pair. Left out are labels of which the pair for class 0 says that all their
+// properties are held already.
+fn told_unkept(
+    t: &[u64],
+    wide: bool,
+    host: &[u64; 16],
+    keeps: &[u64; 256],
+    names: u64,
+    s: Set,
+    have: Set,
+) -> Set
+    requires { ⌜ wordCount wide ≤ length (now t) ⌝ }
+    ensures { λ r. ⌜ ((p : Program) (key : ℕ) → Lays wide p (now (host .entry)) → Key key → names ≡ namesIn (now (host .entry)) key → Tellings wide p (under key) (now (t .entry)) (value wide s) (value wide have) (value wide r) (now (keeps .entry)) (now (keeps .entry))) ⌝ }
+{
+    if of_class_zero(host, names) {
+        let rest = kept::spare(keeps, wide, kept::UNDER, s, have);
+        return uses::gather_under(t, wide, names, rest);
+    }
+    uses::gather_under(t, wide, names, s)
+}
+
 // The properties of the labels of s under a key.
 pub fn told_under(
     t: &[u64],
@@ -61,9 +92,13 @@ pub fn told_under(
     ensures { λ r. ⌜ ((p : Program) → Lays wide p (now (host .entry)) → Tellings wide p (under key) (now (t .entry)) (value wide s) (value wide have) (value wide r) (now (keeps .entry)) (now (keeps .exit))) ⌝ }
 {
     let pair = kept::under_pair(key);
+    let names = host::names(host, key);
+    if !kept::is_kept(wide, pair) {
+        return told_unkept(t, wide, host, keeps, names, s, have);
+    }
     let asked = kept::ask(keeps, wide, pair, s, have);
     let rest = asked.rest;
-    let more = uses::gather_under(t, wide, host::names(host, key), rest);
+    let more = uses::gather_under(t, wide, names, rest);
     kept::answer(keeps, wide, pair, s, asked, more)
 }
 

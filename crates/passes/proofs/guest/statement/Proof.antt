@@ -1,6 +1,7 @@
 -- The guest's statements, by their numbers. Assumes nothing.
 use borrow.Author.Needs.{needs}
 use mathlib.Core.Path.{refl}
+use Rattle.layout.specs.Key.{inside}
 use Rattle.rows.specs.declared.Var.{Var}
 use Rattle.rows.specs.declared.Label.{Label}
 use Rattle.passes.specs.Order.{theSite}
@@ -19,10 +20,10 @@ returns : tie.Need-returns
 returns c = said-at 0 (MakeFunction bag label label) (c .match .keys1) (record { rule = λ p. refl; bounded = λ wide. (three-labels wide, three-labels wide) })
 
 returns-2 : tie.Need-returns-2
-returns-2 c = said-at 1 (Load bag bag 128 label) (c .match .keys2) (record { rule = λ p. refl; bounded = λ wide. (every-name, three-labels wide) })
+returns-2 c = said-at 1 (Load bag bag inside label) (c .match .keys2) (record { rule = λ p. refl; bounded = λ wide. (every-name, three-labels wide) })
 
 returns-3 : tie.Need-returns-3
-returns-3 c = said-at 2 (Store bag 128 bag) (c .match .keys3) (record { rule = λ p. refl; bounded = λ wide. every-name })
+returns-3 c = said-at 2 (Store bag inside bag) (c .match .keys3) (record { rule = λ p. refl; bounded = λ wide. every-name })
 
 returns-4 : tie.Need-returns-4
 returns-4 c = rw (c .guest-site .ensures) (said-at 3 (Call theSite) (c .before .match .keys4) (record { rule = λ p. refl; bounded = λ wide. three-labels wide }))

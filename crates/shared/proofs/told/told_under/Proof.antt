@@ -8,4 +8,5 @@ use Rattle.shared.proofs.told.told_under.Tie as tie
 pub told-under-spec : {M : Type 1} → statement M
 told-under-spec =
     tie.close (tie.spec (λ c κs. search needs) (λ c κs. search needs) (λ c κs. search needs) (λ c κs. search needs)
-    (λ c κs. asks-room (c .before .before .before .before .ask .ensures)) (λ c p lays. search (needs, tellings, under-told)))
+    (λ c p lays. c .told-unkept .ensures p _ lays (search needs) (search needs)) (λ c κs. search needs) (λ c κs. search needs)
+    (λ c κs. asks-room (c .before .before .before .ask .ensures)) (λ c p lays. search (needs, tellings, under-told)))
