@@ -239,6 +239,40 @@ fn keys_for_everything_but_a_class() {
     }
 }
 
+/// The other files of `crates/listed/specs/OutsideFiles.antt`, whose verdicts are theorems there.
+#[test]
+fn a_list_of_hidden_names() {
+    let library = |mask| {
+        let mut w = Writer::new();
+        w.label(5, 1, 0).forbid(5).label(6, 1, 0).variable(2, 0, 255).variable(3, 0, 255).held(2, 6).property(6, 4, 5);
+        w.load(0, 3, 2, 137, 6).grant(3).name(4, mask);
+        w
+    };
+    let stored = |key, mask| {
+        let mut w = Writer::new();
+        w.name(4, mask).label(5, 1, 0).forbid(5).label(6, 1, 0).label(7, 1, 0);
+        w.variable(2, 0, 255).variable(3, 0, 255).variable(4, 0, 255).held(2, 5).held(3, 6);
+        w.store(0, 3, key, 2).load(0, 4, 3, 4, 7).grant(4);
+        w
+    };
+    let mut wrapped = Writer::new();
+    wrapped.label(5, 1, 0).forbid(5).variable(2, 0, 255).load(0, 0, 2, 136, 5).grant(2);
+    let list = [
+        (library(3), Verdict::Confined, 52),
+        (library(5), Verdict::Leaks(5), 152),
+        (wrapped, Verdict::Leaks(5), 148),
+        (stored(137, 3), Verdict::Confined, 117),
+        (stored(137, 5), Verdict::Leaks(5), 219),
+        (stored(136, 5), Verdict::Confined, 55),
+    ];
+    for edition in Edition::BOTH {
+        for (w, verdict, facts) in &list {
+            let answer = answer(edition, &w.bytes);
+            assert_eq!((answer.verdict, answer.facts), (*verdict, *facts), "{edition:?} {:?}", w.bytes);
+        }
+    }
+}
+
 /// The names of a class and those outside it, by masks before and after; a name without a record is in class 0 alone.
 #[test]
 fn names_of_keys() {
