@@ -22,19 +22,20 @@ functionsIn wide host = number (words wide) host 0
 abbrev pub builtInsIn : Bool → List ℕ → ℕ
 builtInsIn wide host = number (words wide) host 4
 
--- the names of a class, of the array; every name
+-- the names of class c as the array has them
 abbrev pub classIn : List ℕ → ℕ → ℕ
 classIn host c = getD host (8 + c) 0
 
-abbrev pub everyName : ℕ
-everyName = 2 ^ 32 - 1
+-- all 32 names
+abbrev pub allNames : ℕ
+allNames = 2 ^ 32 - 1
 
 -- the names of a key as a word: bit n for name n
 abbrev pub namesIn : List ℕ → ℕ → ℕ
 namesIn host key =
     cond (ltb key inside) (2 ^ key)
     (cond (ltb key outside) (classIn host (key - inside))
-    (difference everyName (classIn host (key - outside))))
+    (difference allNames (classIn host (key - outside))))
 
 -- the four arrays of what functions hand back, for 64 functions each: of every function four words, the variables
 pub record Returns : Type 0 where

@@ -27,7 +27,7 @@ pub fn built_ins(host: &[u64; 16], wide: bool) -> Set
 }
 
 // Bit n for each name n.
-const EVERY_NAME: u64 = 0xffffffff;
+const ALL_NAMES: u64 = 0xffffffff;
 
 // The names of a key, as a word.
 pub fn names(host: &[u64; 16], key: u8) -> u64
@@ -41,5 +41,5 @@ pub fn names(host: &[u64; 16], key: u8) -> u64
         return host[CLASSES + ((key - layout::INSIDE) as usize)];
     }
     let class = host[CLASSES + ((key - layout::OUTSIDE) as usize)];
-    words::without(EVERY_NAME, class)
+    words::without(ALL_NAMES, class)
 }

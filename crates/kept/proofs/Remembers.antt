@@ -1,5 +1,5 @@
 -- What is remembered stays true: as tables grow, counted from earlier words, and where pairs are set or emptied. Assumes nothing.
-use mathlib.Core.Path.{_≡_, sym, _∙_}
+use mathlib.Core.Path.{_≡_, refl, sym, _∙_}
 use mathlib.Core.Logic.{_⊎_, inl, inr}
 use mathlib.Core.Bool.{Bool, true, false, not}
 use mathlib.Core.List.{List}
@@ -116,9 +116,9 @@ pub first-fits : (wide : Bool) → 17 ≤ pairCount wide
 first-fits true = omega arith
 first-fits false = omega arith
 
-pub names-fit : (wide : Bool) → not wide ≡ true → 72 ≤ pairCount wide
-names-fit true e = never e
-names-fit false e = omega arith
+pub small-room : (wide : Bool) → not wide ≡ true → pairCount wide ≡ 128
+small-room true e = never e
+small-room false e = refl
 
 -- where there is room for 32 pairs
 pub forgets-first : {before after : List ℕ} (wide : Bool) → not wide ≡ false → Cleared wide 0 17 before after → (q : ℕ) → q < pairCount wide

@@ -217,13 +217,15 @@ pub const HANDED: usize = 5;
 
 pub const INPUTS: usize = 17;
 
-// Under the names of class 0, every name; those of classes 1 to 7 follow. So for names outside a class, and for single names.
+// What is under a key: the first is of class 0, which has every name, and those of classes 1 to 7 follow.
 pub const UNDER: usize = 6;
 
+// Under single names, and under the names outside classes 0 to 7.
 const UNDER_NAMES: usize = 32;
 
 const UNDER_OUTSIDE: usize = 64;
 
+// The same for what is stored.
 pub const STORED: usize = 24;
 
 const STORED_OUTSIDE: usize = 72;

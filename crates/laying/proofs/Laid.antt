@@ -24,7 +24,7 @@ use Rattle.rows.specs.Run.{number}
 use Rattle.rows.proofs.Run.{number-same}
 use Rattle.lent.specs.Table.{place}
 use Rattle.lent.specs.Stored.{Stored}
-use Rattle.host.specs.Lays.{functionsIn, builtInsIn, classIn, everyName, namesIn, Lays}
+use Rattle.host.specs.Lays.{functionsIn, builtInsIn, classIn, allNames, namesIn, Lays}
 use Rattle.host.proofs.Rows.{row-first}
 use Rattle.laying.specs.Holds.{Holds, hasByte, Classes}
 
@@ -67,19 +67,19 @@ module _ (wide : Bool) (types flags : List ℕ) {masks t u v w : List ℕ} {fs b
       λ i. in-class c n h .1 (chosen-passes (inClass (p .sheet) c) 32 n i),
     )
 
-    outside-named : (c n : ℕ) → c < 8 → (bit (difference everyName (classIn w c)) n ≡ 1) ↔ List·Memᴰ n (chosen (outsideClass (p .sheet) c) 32)
+    outside-named : (c n : ℕ) → c < 8 → (bit (difference allNames (classIn w c)) n ≡ 1) ↔ List·Memᴰ n (chosen (outsideClass (p .sheet) c) 32)
     outside-named c n h = (into, from)
       where
-        into : bit (difference everyName (classIn w c)) n ≡ 1 → List·Memᴰ n (chosen (outsideClass (p .sheet) c) 32)
+        into : bit (difference allNames (classIn w c)) n ≡ 1 → List·Memᴰ n (chosen (outsideClass (p .sheet) c) 32)
         into o =
-            let i = on-below 32 everyName n (omega arith) (on-difference everyName (classIn w c) n o) in
+            let i = on-below 32 allNames n (omega arith) (on-difference allNames (classIn w c) n o) in
             passes-chosen (outsideClass (p .sheet) c) 32 n i
-            (untrue (inClass (p .sheet) c n) (λ e. difference-off everyName (classIn w c) n o (in-class c n h .1 (i, e))))
+            (untrue (inClass (p .sheet) c n) (λ e. difference-off allNames (classIn w c) n o (in-class c n h .1 (i, e))))
 
-        from : List·Memᴰ n (chosen (outsideClass (p .sheet) c) 32) → bit (difference everyName (classIn w c)) n ≡ 1
+        from : List·Memᴰ n (chosen (outsideClass (p .sheet) c) 32) → bit (difference allNames (classIn w c)) n ≡ 1
         from i =
             let q = chosen-passes (outsideClass (p .sheet) c) 32 n i in
-            elim (difference-on everyName (classIn w c) n (ones-on 32 n (q .0))) [
+            elim (difference-on allNames (classIn w c) n (ones-on 32 n (q .0))) [
               | inl o ↦ o
               | inr o ↦ absurd (not-both (inClass (p .sheet) c n) (q .1) (in-class c n h .0 o .1))
             ]
@@ -89,7 +89,7 @@ module _ (wide : Bool) (types flags : List ℕ) {masks t u v w : List ℕ} {fs b
     named key n k = go (ltb key inside) (ltb key outside) refl refl
       where
         go : (a b : Bool) → ltb key inside ≡ a → ltb key outside ≡ b
-            → (bit (cond a (2 ^ key) (cond b (classIn w (key - inside)) (difference everyName (classIn w (key - outside))))) n ≡ 1)
+            → (bit (cond a (2 ^ key) (cond b (classIn w (key - inside)) (difference allNames (classIn w (key - outside))))) n ≡ 1)
             ↔ List·Memᴰ n (cond a (key ∷ []) (cond b (chosen (inClass (p .sheet) (key - inside)) 32) (chosen (outsideClass (p .sheet) (key - outside)) 32)))
         go true b e f = (λ o. List·Memᴰ·head (single-only key n o), λ i. rw (List·Memᴰ·eq-of-singleton i) (on-single key))
         go false true e f = class-named (key - inside) n (omega (arith, ltb-false key inside e, ltb-true key outside f))
