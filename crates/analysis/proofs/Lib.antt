@@ -4,6 +4,7 @@ pub mod Stated
 pub mod Proper
 pub mod Returned
 pub mod Fit
+pub mod Alike
 pub mod Naming
 pub mod Least
 pub mod Held

@@ -194,7 +194,7 @@ module _ (L : ℕ) (s : Sheet) (ps : List (ℕ × Record)) (m : Made L s ps) whe
         ),
         tt,
       ))
-      (by-kind P k 23 _ _ (λ e. let g = fine 23 e in ((of-function L s ps m _ (g 0 (omega arith)), var _ (g 1 (omega arith))), tt))
+      (by-kind P k 23 _ _ (λ e. let g = fine 23 e in ((scope-at _ (g 0 (omega arith)), var _ (g 1 (omega arith))), tt))
       (by-kind P k 24 _ _ (λ e. let g = fine 24 e in ((scope-at _ (g 0 (omega arith)), var _ (g 1 (omega arith))), tt))
       (by-kind P k 25 _ _ (λ e. let g = fine 25 e in ((scope-at _ (g 0 (omega arith)), var _ (g 1 (omega arith))), tt))
       (by-kind P k 26 _ _ (λ e. let g = fine 26 e in ((scope-at _ (g 0 (omega arith)), var _ (g 1 (omega arith))), tt))

@@ -50,7 +50,7 @@ kinds =
     (scope ∷ variable ∷ functionLabel ∷ plainLabel ∷ []) ∷  -- 20 make function: k, y, l, q
     (scope ∷ replicate 9 variable) ∷  -- 21 call: k, y, callee, this, six arguments
     (scope ∷ variable ∷ variable ∷ declaredVariable ∷ plainLabel ∷ replicate 6 variable) ∷  -- 22 new: k, y, callee, t, l, six arguments
-    (functionLabel ∷ variable ∷ []) ∷  -- 23 return: k, value
+    (scope ∷ variable ∷ []) ∷  -- 23 return: k, value; k is 0 too (request 02)
     (scope ∷ variable ∷ []) ∷  -- 24 throw: k, value
     (scope ∷ variable ∷ []) ∷  -- 25 catch: k, y
     (scope ∷ variable ∷ []) ∷  -- 26 prim: k, object

@@ -1,5 +1,6 @@
 -- The laws of specs/Laws.antt: what a step can bring about, whatever the program, the state, the frame and the choice (Outward to Leaving); what does
 -- nothing (Idle); what no step takes back (Grown); runs (Running); what stands at the start (Labels to Filling); and some of them put together (Granted).
+pub mod Places
 pub mod Grown
 pub mod Outward
 pub mod Reading
@@ -14,6 +15,7 @@ pub mod Building
 pub mod Leaving
 pub mod Idle
 pub mod Running
+pub mod Grounded
 pub mod Labels
 pub mod Beginning
 pub mod Filling

@@ -165,6 +165,21 @@ module _ (p : Program) (s : State) (c : Choice) where
       (k v : ℕ) (d : Caller) → statementAt p (c .statement) .1 ≡ say.return k v → read p s (c .frame) v (c .which 0) ≡ primitive
       → frameAt s (c .frame) .caller ≡ some d → d .byNew ≡ true → step p (act c) s ≡ s
 
+-- ---- a return at top level
+
+module _ (p : Program) where
+  -- "the top frame" alone is of scope 0, and nothing called it; where label 0 is no function no call makes another
+  abbrev pub NothingCalledTheTop : Type 0
+  NothingCalledTheTop =
+      (typeOf (p .sheet) 0 ≡ 2 → ⊥) → (moves : List Move) (f : ℕ) → frameAt (run p moves (start p)) f .scope ≡ 0
+      → frameAt (run p moves (start p)) f .caller ≡ none
+
+  -- request 02: "The machine does nothing on that step.", in whatever state a run has left
+  abbrev pub ReturnsToNobody : Type 0
+  ReturnsToNobody =
+      (typeOf (p .sheet) 0 ≡ 2 → ⊥) → (moves : List Move) (c : Choice) (v : ℕ) → statementAt p (c .statement) .1 ≡ say.return 0 v
+      → step p (act c) (run p moves (start p)) ≡ run p moves (start p)
+
 -- ---- statements and the start
 
 module _ (p : Program) where

@@ -15,8 +15,9 @@ use Rattle.format.specs.Sheet.{declared}
 use Rattle.program.specs.Program.{Program}
 use Rattle.machine.specs.State.{Value, primitive, Object, Caller, Frame, State, noObject, noFrame, frameIn, objectAt, frameAt, withObject, withFrame, setObject, setFrame, withBagged, withValue, withVariable, withThrown}
 use Rattle.soundness.specs.Described.{P, H, T, labelIn, Allowed, primitive-allowed, AllowedIfAny, nothing-there, value-there, ObjectDescribed, LinkedIfCalled, no-caller, called, FrameDescribed, Described}
+use Rattle.machine.proofs.laws.Places.{at-append, at-set}
 use Rattle.machine.proofs.laws.Writing.{field-set}
-use Rattle.soundness.proofs.Values.{at-append, at-set, Keeps, keeps-refl, keeps-append, keeps-set, first-kept, allowed-kept, any-kept}
+use Rattle.soundness.proofs.Values.{Keeps, keeps-refl, keeps-append, keeps-set, first-kept, allowed-kept, any-kept}
 
 -- one more in a list of allowed values
 pub members-more : {t : Table} {os : List Object} {r : ℕ} (xs : List Value) (x : Value) → ((y : Value) → List·Memᴰ y xs → Allowed t os r y) → Allowed t os r x

@@ -1,0 +1,10 @@
+-- A return at top level says nothing: how the file is read (Read), what is left of its statements (Bare), the rules (Told), the machine (Run), and all
+-- together (Silent).
+pub mod Read
+pub mod Found
+pub mod Bare
+pub mod Told
+pub mod Steps
+pub mod Start
+pub mod Run
+pub mod Silent

@@ -1,0 +1,2 @@
+-- A return at top level says nothing.
+pub mod Silent

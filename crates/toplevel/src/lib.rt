@@ -1,0 +1,1 @@
+// A return at top level says nothing: definitions and theorems, no code.
