@@ -1,5 +1,5 @@
-//! Verdict, label, count and every word of the table, on listed, random, structured, many-round, dense and damaged files, against the second solver, in
-//! both editions.
+//! Verdict, label, count and every word of the table, on listed, random, structured, many-round, dense and damaged files, and on files with returns at the
+//! top level of everything the host has, against the second solver, in both editions.
 
 use compare::{edition, second_verdict};
 use pezvoran::{verdict, Answer, Edition, Large, Small};
@@ -101,6 +101,13 @@ fn relays_agree() {
 fn dense_full_files_agree() {
     many::<Small>("dense", 20, generate::dense_in);
     many::<Large>("dense", 10, generate::dense_in);
+}
+
+/// Returns at the top level at the end, at some places or at all, up to full files.
+#[test]
+fn returns_at_the_top_level_agree() {
+    fairly_shared(many::<Small>("top returns", 400, generate::top_returns_in));
+    fairly_shared(many::<Large>("top returns", 60, generate::top_returns_in));
 }
 
 #[test]

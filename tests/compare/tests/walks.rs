@@ -33,6 +33,12 @@ fn walks_over_structured_files_stay_within_the_table() {
 }
 
 #[test]
+fn walks_over_files_with_returns_at_the_top_level_stay_within_the_table() {
+    walks::<Small>("top returns", 60, 2_000, generate::top_returns_in);
+    walks::<Large>("top returns", 30, 2_000, generate::top_returns_in);
+}
+
+#[test]
 fn walks_over_random_files_stay_within_the_table() {
     walks::<Small>("random", 500, 1_000, generate::random_in);
     walks::<Large>("random", 250, 1_000, generate::random_in);

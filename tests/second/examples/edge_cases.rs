@@ -1,6 +1,6 @@
-//! Writes the cases of the Rattle program `edges` and what it must print: good and bad values side by side for every field of every kind,
-//! every cut record, a function left out, and files at the size limit, in the small edition and then in the large one. Run from this package's
-//! folder.
+//! Writes the cases of the Rattle program `edges` and what it must print: good and bad values side by side for every field of every kind, the value of a
+//! return also at the top level, every cut record, a function left out, and files at the size limit, in the small edition and then in the large one. Run
+//! from this package's folder.
 
 use second::edition::Edition;
 use second::generate::edges;
@@ -23,7 +23,7 @@ fn wanted(name: &str) -> bool {
     match parts.as_slice() {
         ["edge", "kind", kind] => kind.parse::<u8>().is_ok_and(|k| k < 30 || k == 255),
         ["edge", _, "due"] | ["edge", _, "cut", _] => true,
-        ["edge", _, _, value] => value.parse::<u8>().is_ok_and(|v| BORDERS.contains(&v)),
+        ["edge", _, _, value] | ["edge", _, _, value, "top"] => value.parse::<u8>().is_ok_and(|v| BORDERS.contains(&v)),
         _ => false,
     }
 }

@@ -1,10 +1,11 @@
 //! Writes the files of the Rattle program `cases` and what it must print, of each file in both editions: document 01's eight listed files, four structured
-//! files that use every kind of record, two confined and two leaking, two more with labels above 63, request 01's example with keys on both sides of their
-//! borders, and two random files whose tables hang on keys outside a class. Run from this package's folder.
+//! files that use every kind of record and return at the top level, two confined and two leaking, two more with labels above 63, request 01's example with
+//! keys on both sides of their borders, and two random files whose tables hang on keys outside a class. Run from this package's folder.
 
 use second::check::check_in;
 use second::edition::Edition;
 use second::generate::rekey::rekey;
+use second::generate::top_returns::{records, top_return};
 use second::generate::{random, structured_in};
 use second::keys::{EVERY_NAME, KEY_OUTSIDE_CLASS};
 use second::reader::{read, read_in, record_starts};
@@ -70,13 +71,14 @@ fn lines_in(edition: Edition, file: &[u8]) -> String {
     report_in(edition, file) + &checked
 }
 
-/// The first structured file of the edition from a seed on that uses every kind, leaks or not as asked, and is none of the small edition where it is a
-/// large one.
+/// The first structured file of the edition from a seed on that uses every kind, returns at the top level, leaks or not as asked, and is none of the small
+/// edition where it is a large one.
 fn every_kind(edition: Edition, from: u64, leaking: bool) -> Vec<u8> {
     (from..)
         .map(|seed| structured_in(edition, seed).1)
         .find(|f| {
             kinds(f).len() == 19
+                && records(f).any(|record| top_return(record).is_some())
                 && (edition == Edition::Small || read(f).is_err())
                 && leaks(&answer(edition, f)) == leaking
         })

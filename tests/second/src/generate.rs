@@ -17,6 +17,7 @@ pub mod rounds;
 pub mod small;
 pub mod spread;
 pub mod structured;
+pub mod top_returns;
 pub mod writer;
 
 use crate::edition::Edition;
@@ -29,13 +30,15 @@ pub use rounds::rounds_in;
 pub use small::{damaged, dense, edge_mix, edges, every, random, rounds, sizes, structured};
 pub use spread::spread_in;
 pub use structured::structured_in;
+pub use top_returns::top_returns_in;
 
 /// A file with the name to call it by.
 pub type Named = (String, Vec<u8>);
 
 /// One file of every seeded generator but those of full files for the seed.
 pub fn every_in(edition: Edition, seed: u64) -> Vec<Named> {
-    [random_in, structured_in, rounds_in, spread_in, damaged_in, edge_mix_in].map(|make| make(edition, seed)).to_vec()
+    let makers = [random_in, structured_in, rounds_in, spread_in, damaged_in, edge_mix_in, top_returns_in];
+    makers.map(|make| make(edition, seed)).to_vec()
 }
 
 /// The name of a seeded file.

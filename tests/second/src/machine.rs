@@ -10,7 +10,7 @@ use crate::row::Row;
 use state::State;
 
 /// What a walk came to see.
-#[derive(Clone, Copy, Default, Debug)]
+#[derive(Clone, Copy, PartialEq, Default, Debug)]
 pub struct Stats {
     pub steps: usize,
     /// Steps that did something.
@@ -69,6 +69,26 @@ pub fn witnessed(
         }
     }
     Ok(program.edition.table(&all))
+}
+
+/// Takes a walk and before every twentieth step carries out the statements in the top frame; an error tells that they left another state
+/// than they found, the choices to come among it, or what `walk` tells.
+pub fn idle(program: &Program, table: &[u64], statements: &[Record], seed: u64, steps: usize) -> Result<(), String> {
+    let mut state = State::start(program, table, Prng::new(seed))?;
+    let mut walker = Walker::new(program);
+    for step in 0..steps {
+        if step % 20 == 0 {
+            let before = state.clone();
+            for &statement in statements {
+                state.carry_out(statement, 0)?;
+            }
+            if state != before {
+                return Err(format!("before step {step}: another state"));
+            }
+        }
+        walker.step(&mut state)?;
+    }
+    Ok(())
 }
 
 /// Chooses the steps. Every step that document 01 allows can be chosen at any time.

@@ -1,6 +1,6 @@
 //! A small seeded source of random numbers (splitmix64).
 
-#[derive(Clone, Debug)]
+#[derive(Clone, PartialEq, Debug)]
 pub struct Prng {
     state: u64,
 }

@@ -67,7 +67,7 @@ pub const GUEST_STATEMENTS: [Record; 8] = [
     Record::Catch { k: GUEST, y: BAG },
 ];
 
-#[derive(Clone, Debug)]
+#[derive(Clone, PartialEq, Debug)]
 pub struct Program {
     pub edition: Edition,
     /// In the small edition nothing is ever declared of labels 64 to 255.

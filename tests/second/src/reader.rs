@@ -136,7 +136,6 @@ fn statement(program: &Program, kind: u8, b: &[u8]) -> Result<Record, u8> {
             l: made(4, &[Type::Plain])?,
             args: six(5)?,
         },
-        23 if k == 0 => return Err(BAD_LABEL),
         23 => Record::Return { k, value: var(1)? },
         24 => Record::Throw { k, value: var(1)? },
         25 => Record::Catch { k, y: var(1)? },

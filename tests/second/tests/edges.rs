@@ -1,4 +1,4 @@
-//! Every byte value in every field of every kind, against a list of good values written by hand from document 01 and requests 01 and 13.
+//! Every byte value in every field of every kind, against a list of good values written by hand from document 01 and requests 01, 02 and 13.
 
 use second::generate::edges_in;
 use second::reader::read_in;
@@ -13,7 +13,6 @@ enum Field {
     NotZero,
     Top,
     Scope,
-    Inner,
     Any,
     Host,
     Plain,
@@ -49,7 +48,6 @@ fn judge(edition: Edition, field: Field, value: u8) -> u8 {
         NotZero => among(&[2, 3, 4, 5, 6], 3),
         Top => among(&[2, 3, 5], 3),
         Scope => label(&[0, 6, 9, 12]),
-        Inner => label(&[6, 9, 12]),
         Any => label(&[0, 1, 2, 3, 4, 5, 6, 7, 8, 9, 10, 12]),
         Host => label(&[0, 1, 2, 4, 5, 6, 7, 8, 9, 10, 12]),
         Plain => label(&[5, 8]),
@@ -123,8 +121,7 @@ fn expected(edition: Edition, kind: u8, field: usize, value: u8) -> u8 {
         20 => &[Scope, Var, Func, Plain],
         21 => &[Scope, Var, Var, Var, Var, Var, Var, Var, Var, Var],
         22 => &[Scope, Var, Var, NotZero, Plain, Var, Var, Var, Var, Var, Var],
-        23 => &[Inner, Var],
-        24 | 25 | 26 => &[Scope, Var],
+        23..=26 => &[Scope, Var],
         _ => panic!("kind {kind}"),
     };
     judge(edition, fields[field - 1], value)
@@ -153,7 +150,7 @@ fn every_value(edition: Edition) {
             [_, "cut", _] => 2,
             ["4", "due"] => 0,
             [_, "due"] => 7,
-            [kind, field, value] => {
+            [kind, field, value] | [kind, field, value, "top"] => {
                 expected(edition, kind.parse().unwrap(), field.parse().unwrap(), value.parse().unwrap())
             }
             _ => panic!("{name}"),

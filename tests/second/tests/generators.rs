@@ -1,18 +1,27 @@
-//! The generators in both editions: the same file for the same seed, readable where they promise it, of every kind and with every sort of key.
+//! The generators in both editions: the same file for the same seed, readable where they promise it, of every kind, with every sort of key
+//! and of return at the top level.
 
 use second::generate::rekey::{key_positions, rekey};
+use second::generate::top_returns::{records, top_return};
 use second::generate::{
-    damaged_in, dense_in, every, every_in, random_in, relay_in, rounds_in, spread_in, structured_in, Named,
+    damaged_in, dense_in, edge_mix_in, every, every_in, random_in, relay_in, rounds_in, spread_in, structured_in,
+    top_returns_in, Named,
 };
 use second::keys::{Key, EVERY_NAME, KEY_OF_CLASS, NO_NAME};
+use second::program::{Program, Record};
 use second::reader::{read_in, record_starts};
 use second::solver::{solve, Verdict};
 use second::Edition;
 use std::time::{Duration, Instant};
 
 type Make = fn(Edition, u64) -> Named;
-const READABLE: [(&str, Make); 4] =
-    [("random", random_in), ("structured", structured_in), ("rounds", rounds_in), ("spread", spread_in)];
+const READABLE: [(&str, Make); 5] = [
+    ("random", random_in),
+    ("structured", structured_in),
+    ("rounds", rounds_in),
+    ("spread", spread_in),
+    ("top returns", top_returns_in),
+];
 
 /// Files that are confined and that leak, among `seeds` seeds; the time of the slowest solution is printed.
 fn shares(edition: Edition, title: &str, make: Make, seeds: u64) -> (u64, u64) {
@@ -169,7 +178,8 @@ fn lists_of_names_guard_hidden_fields() {
     for edition in Edition::BOTH {
         let leaks = |file: &[u8]| solve(&read_in(edition, file).expect("readable")).verdict != Verdict::Confined;
         let (mut guarded, mut left_off) = (0, 0);
-        for (_, file) in (0..600).map(|seed| structured_in(edition, seed)).filter(|(name, _)| name.contains("hidden")) {
+        for (_, file) in (0..1000).map(|seed| structured_in(edition, seed)).filter(|(name, _)| name.contains("hidden"))
+        {
             if leaks(&file) {
                 left_off += !leaks(&exchanged(&file, OUTSIDE_TO_NONE)) as usize;
             } else {
@@ -178,6 +188,71 @@ fn lists_of_names_guard_hidden_fields() {
         }
         println!("{edition:?}: {guarded} files are guarded, {left_off} leak by a name left off the list");
         assert!(guarded >= 20 && left_off >= 5);
+    }
+}
+
+fn returns_at_the_top(file: &[u8]) -> bool {
+    records(file).any(|record| top_return(record).is_some())
+}
+
+/// Returns at the top level stand in files of every generator but those of many rounds.
+#[test]
+fn returns_at_the_top_level_are_everywhere() {
+    let makers: [(Make, u64); 7] = [
+        (random_in, 100),
+        (structured_in, 100),
+        (spread_in, 100),
+        (dense_in, 10),
+        (damaged_in, 100),
+        (edge_mix_in, 400),
+        (top_returns_in, 100),
+    ];
+    for (edition, (make, seeds)) in Edition::BOTH.into_iter().flat_map(|e| makers.map(|make| (e, make))) {
+        let with = (0..seeds).filter(|&seed| returns_at_the_top(&make(edition, seed).1)).count();
+        println!("{edition:?} {}: {with} of {seeds} files return at the top level", make(edition, 0).0);
+        assert!(with as u64 >= seeds / 40, "{edition:?} {}", make(edition, 0).0);
+    }
+}
+
+/// What a return at the top level gives: 0 nothing, 1 a variable of the top level, 2 one with a name, 3 one of a function, 4 a formal.
+fn sort_of_value(program: &Program, value: u8) -> usize {
+    let formal = program.functions.iter().flatten().any(|f| f.formals.contains(&value));
+    match program.variables[value as usize] {
+        None => 0,
+        Some(_) if formal => 4,
+        Some(variable) if variable.owner != 0 => 3,
+        Some(variable) if variable.name.is_some() => 2,
+        Some(_) => 1,
+    }
+}
+
+/// The variable whose labels the record calls, and 0 for a call, 1 for new, 2 for prim.
+fn called(record: Record) -> Option<(usize, u8)> {
+    match record {
+        Record::Call { callee, .. } => Some((0, callee)),
+        Record::New { callee, .. } => Some((1, callee)),
+        Record::Prim { object, .. } => Some((2, object)),
+        _ => None,
+    }
+}
+
+/// Values of every sort are returned at the top level, in files in which the host calls the global object by every kind of record.
+#[test]
+fn every_sort_of_return_at_the_top_level() {
+    for (edition, (title, make)) in Edition::BOTH.into_iter().flat_map(|e| READABLE.map(|make| (e, make))) {
+        let (mut values, mut calls) = ([0; 5], [0; 3]);
+        for file in (0..200).map(|seed| make(edition, seed).1).filter(|file| returns_at_the_top(file)) {
+            let program = read_in(edition, &file).expect("readable");
+            let table = solve(&program).table;
+            records(&file).filter_map(top_return).for_each(|value| values[sort_of_value(&program, value)] += 1);
+            for (kind, variable) in program.records.iter().filter_map(|&record| called(record)) {
+                calls[kind] += edition.row(&table, edition.s(variable)).has(0) as usize;
+            }
+        }
+        println!("{edition:?} {title}: values by sort {values:?}, the global object is called by {calls:?} records");
+        let all = ["random", "spread", "top returns"].contains(&title);
+        assert!(!all || values.into_iter().chain(calls).all(|count| count >= 10), "{edition:?} {title}");
+        assert!(title == "rounds" || calls.into_iter().all(|count| count >= 10), "{edition:?} {title}");
     }
 }
 

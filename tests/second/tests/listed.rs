@@ -1,6 +1,8 @@
-//! The eight listed files of document 01, its edges as request 01 leaves them, and its traps, against reader, solver and check, in both editions.
+//! The eight listed files of document 01, its edges as request 01 leaves them, its traps, and what requests 01 and 02 say, against reader, solver and
+//! check, in both editions.
 
 use second::check::check_in;
+use second::generate::top_returns::with_top_returns;
 use second::generate::writer::Writer;
 use second::reader::{read_in, read_with_table, Refusal};
 use second::report::{report, report_in};
@@ -327,5 +329,44 @@ fn more_classes_may_mean_fewer_facts() {
     };
     for e in Edition::BOTH {
         assert_eq!((facts(e, 1) - facts(e, 3), facts(e, 1) - facts(e, 5)), (1, 0));
+    }
+}
+
+/// Request 02: returns at the top level are read and say nothing.
+#[test]
+fn returns_at_the_top_level() {
+    for edition in Edition::BOTH {
+        assert_eq!(report_in(edition, &[23, 0, 0]), "confined 45\nguest 3\n");
+        assert_eq!(report_in(edition, &[23, 0, 9]), "refused 3 0\n");
+        assert_eq!(report_in(edition, &[23, 3, 0]), "refused 4 0\n");
+    }
+}
+
+/// Everything the host has is returned at the top level, the forbidden object too. The host calls the global object, a function and what the
+/// guest gives, with new too, catches what is thrown, and grants all results: still nobody gets it.
+#[test]
+fn nobody_gets_what_the_top_level_returns() {
+    let mut w = file_three(255, 0);
+    w.label(6, 2, 0).label(7, 1, 0).variable(3, 0, 255).variable(4, 0, 9).variable(5, 6, 255).function(6, 5, [5; 6]);
+    w.held(3, 0).held(3, 6).held(4, 6);
+    for v in 10..=16 {
+        w.variable(v, 0, if v % 2 == 0 { 255 } else { v }).grant(v);
+    }
+    w.call(0, 10, 3, 0, [0; 6])
+        .new_object(0, 11, 3, 12, 7, [0; 6])
+        .call(0, 13, 12, 0, [0; 6])
+        .call(6, 14, 10, 0, [0; 6]);
+    w.prim(0, 3).prim(0, 10).catch(0, 15).catch(6, 16);
+    let returned = with_top_returns(&w.bytes, |_, _| true);
+    assert!(returned.len() > 3 * w.bytes.len());
+    for edition in Edition::BOTH {
+        let (before, after) = (answer(edition, &w.bytes), answer(edition, &returned));
+        assert_eq!(before, after);
+        assert_eq!(after.verdict, Verdict::Confined);
+        assert_eq!(check_in(edition, &returned, &after.table), Ok(()));
+        // The same return in the scope of the function, which the host calls, is another matter.
+        let mut w = w.clone();
+        w.give_back(6, 2);
+        assert_eq!(answer(edition, &w.bytes).verdict, Verdict::Leaks(5));
     }
 }

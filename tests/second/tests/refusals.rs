@@ -151,7 +151,7 @@ fn each_field_of_each_kind() {
         (&[22, 0, 2, 2, 0, 99, 0, 0, 0, 0, 0, 0], 3),
         (&[22, 0, 2, 2, 2, 99, 1, 0, 0, 0, 0, 0], 4),
         (&[22, 0, 0, 0, 2, 5, 0, 0, 0, 0, 0, 1], 3),
-        (&[23, 0, 99], 4),
+        (&[23, 0, 99], 3),
         (&[23, 6, 99], 3),
         (&[23, 6, 2], 0),
         (&[24, 0, 2], 0),
@@ -161,6 +161,31 @@ fn each_field_of_each_kind() {
     for (record, number) in list {
         assert_eq!(after(&h, record), number, "{record:?}");
     }
+}
+
+/// Request 02: the scope of a return is any scope, and its value is judged in scope 0 as in others. No record names variable 1, the guest's bag.
+#[test]
+fn returns() {
+    let h = head();
+    for value in [0, 2, 3, 4] {
+        assert_eq!(after(&h, &[23, 0, value]), 0, "{value}");
+    }
+    for value in [1, 5, 99, 255] {
+        assert_eq!(after(&h, &[23, 0, value]), 3, "{value}");
+        assert_eq!(after(&h, &[23, 6, value]), 3, "{value}");
+    }
+    // Labels that are no scope: built-in ones, the guest's, a plain one, an array, undeclared ones. They come before a bad value.
+    for (k, value) in [1, 2, 3, 4, 5, 7, 8, 63, 64, 255].into_iter().flat_map(|k| [0, 2, 99].map(|value| (k, value))) {
+        assert_eq!(after(&h, &[23, k, value]), 4, "{k} {value}");
+    }
+    assert_eq!((after(&h, &[23]), after(&h, &[23, 0]), after(&h, &[23, 3])), (2, 2, 2));
+    // Only earlier records declare the value.
+    let mut w = Writer::new();
+    w.give_back(0, 2).variable(2, 0, 255);
+    assert_eq!(outcome(&w.bytes), (3, 0));
+    let mut w = Writer::new();
+    w.variable(2, 0, 255).give_back(0, 2);
+    assert_eq!(outcome(&w.bytes), (0, 0));
 }
 
 #[test]

@@ -1,4 +1,4 @@
-//! Pieces of structured files about calls: closures, arguments, throws, constructors, methods, call-backs.
+//! Pieces of structured files about calls: closures, arguments, throws, constructors, methods, call-backs, modules.
 
 use super::kit::{Fun, Kit};
 use crate::keys::{EVERY_NAME, KEY_OUTSIDE_CLASS, NO_NAME};
@@ -137,5 +137,18 @@ pub fn arguments(kit: &mut Kit) {
     kit.say(|w| w.call(0, y, fv, args[given], args).give_back(f.l, f.formals[given]));
     kit.say(|w| w.store(f.l, f.formals[given], n, f.this));
     let shown = kit.r.pick(&[fv, y, y]);
+    kit.expose(shown);
+}
+
+/// A module returns what it exports at the top level, where nobody gets it, although the host calls the global object, with new too, and
+/// turns it into a primitive. By a slip a function stands for the global object and for the top level, and its caller gets the exports.
+pub fn module(kit: &mut Kit) {
+    let (exports, called, made, l) = (kit.some_secret(), kit.top(), kit.top(), kit.plain());
+    let (result, t) = (kit.top(), kit.top());
+    let module = if kit.slips() { kit.fun(0).l } else { 0 };
+    kit.say(|w| w.held(called, module).give_back(module, exports));
+    kit.say(|w| w.call(0, result, called, exports, [exports; 6]).new_object(0, made, called, t, l, [exports; 6]));
+    kit.say(|w| w.prim(0, called));
+    let shown = kit.r.pick(&[result, made]);
     kit.expose(shown);
 }

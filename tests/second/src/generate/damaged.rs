@@ -7,7 +7,7 @@ use crate::edition::Edition;
 use crate::prng::Prng;
 use crate::reader::{body_length, record_starts};
 
-/// Makes a readable file and then changes, cuts, inserts, doubles or swaps some of its bytes, keys among them.
+/// Makes a readable file and then changes, cuts, inserts, doubles or swaps some of its bytes, keys and the fields of returns among them.
 pub fn damaged_in(edition: Edition, seed: u64) -> Named {
     let mut r = Prng::new(seed.wrapping_mul(17).wrapping_add(0xD));
     let base = r.next() % 100_000;
@@ -30,7 +30,7 @@ fn damage(edition: Edition, r: &mut Prng, bytes: &mut Vec<u8>) {
     }
     let at = r.below(bytes.len());
     let start = r.pick(&starts);
-    match r.below(9) {
+    match r.below(10) {
         0 => bytes[at] = r.byte(),
         1 => bytes[at] = r.pick(border_bytes(edition)),
         2 => bytes.truncate(at),
@@ -44,6 +44,13 @@ fn damage(edition: Edition, r: &mut Prng, bytes: &mut Vec<u8>) {
             }
         }
         7 => {
+            let returns = starts.iter().find(|&&start| start >= at && bytes[start] == 23);
+            let field = returns.map(|start| start + r.between(1, 2)).filter(|&field| field < bytes.len());
+            if let Some(field) = field {
+                bytes[field] = r.pick(border_bytes(edition));
+            }
+        }
+        8 => {
             let length = body_length(bytes[start]).unwrap_or(0) + 1;
             let record = bytes[start..(start + length).min(bytes.len())].to_vec();
             let to = r.pick(&starts);

@@ -83,6 +83,7 @@ pub fn dense_in(edition: Edition, seed: u64) -> Named {
     for l in edition.declarable() {
         w.held(r.between(2, 199) as u8, l);
     }
+    w.held(2, 0);
     for _ in 0..r.pick(&[0, 1, 1, 200]) {
         w.grant(r.between(2, 199) as u8);
     }
@@ -138,7 +139,7 @@ fn statement(all: &Labels, r: &mut Prng, w: &mut Writer, kind: u8, keys: Keys) {
         20 => w.make_function(k, a, function, plain),
         21 => w.call(k, a, b, c, args),
         22 => w.new_object(k, a, b, c, plain, args),
-        23 => w.give_back(function, a),
+        23 => w.give_back(k, a),
         24 => w.throw(k, a),
         25 => w.catch(k, a),
         _ => w.prim(k, a),

@@ -84,7 +84,8 @@ fn between(edition: Edition, record: &[u8], with_function: bool) -> Vec<u8> {
     w.bytes
 }
 
-/// Makes every file of a good preface and one record of any kind with one field set to any of the 256 bytes, cut anywhere.
+/// Makes every file of a good preface and one record of any kind with one field set to any of the 256 bytes, cut anywhere; the value of a return
+/// also at the top level.
 pub fn edges_in(edition: Edition) -> Vec<Named> {
     let mut files = Vec::new();
     for kind in 0..=255 {
@@ -102,6 +103,9 @@ pub fn edges_in(edition: Edition) -> Vec<Named> {
             }
         }
     }
+    for value in 0..=255 {
+        files.push((format!("edge-23-2-{value}-top"), between(edition, &[23, 0, value], true)));
+    }
     files
 }
 
@@ -111,6 +115,9 @@ pub fn edge_mix_in(edition: Edition, seed: u64) -> Named {
     let mut w = if r.chance(1, 20) { Writer::new() } else { preface(edition) };
     for _ in 0..r.between(1, 3) {
         let mut record = good(edition, r.pick(&KINDS));
+        if record[0] == 23 && r.chance(1, 2) {
+            record[1] = 0;
+        }
         for _ in 0..r.below(4) {
             let field = r.below(record.len());
             if field > 0 || r.chance(1, 10) {

@@ -7,7 +7,7 @@ use crate::edition::Edition;
 pub type Gadget = (&'static str, fn(&mut Kit));
 
 /// The pieces; those with many labels come last.
-const GADGETS: [Gadget; 19] = [
+const GADGETS: [Gadget; 20] = [
     ("closure", calls::closure),
     ("membrane", calls::membrane),
     ("prototypes", objects::prototypes),
@@ -25,6 +25,7 @@ const GADGETS: [Gadget; 19] = [
     ("primitive", objects::primitive),
     ("recursion", calls::recursion),
     ("arguments", calls::arguments),
+    ("module", calls::module),
     ("sites", objects::sites),
     ("sites", objects::sites),
 ];

@@ -178,7 +178,7 @@ impl State {
                     self.w.new_object(k, y, callee, t, l, args);
                 }
             }
-            8 if k != 0 => {
+            8 => {
                 let value = self.var();
                 self.w.give_back(k, value);
             }

@@ -207,7 +207,8 @@ impl Kit {
         }
     }
 
-    /// The file: names and a few more forbids, then the body in the order written, backwards or shuffled.
+    /// The file: names and a few more forbids, then the body in the order written, backwards or shuffled; at times a return at the top level
+    /// ends it, as in modules from the new translator.
     pub fn finish(mut self) -> Vec<u8> {
         if self.slips() {
             let l = self.r.pick(&[0, 1, 2, 4, 5, 6]);
@@ -217,6 +218,11 @@ impl Kit {
             0 => {}
             1 => self.body.reverse(),
             _ => self.r.shuffle(&mut self.body),
+        }
+        if self.r.chance(1, 2) {
+            let any = self.r.between(2, self.next_variable as usize - 1) as u8;
+            let exports = if self.r.chance(1, 2) { self.some_secret() } else { any };
+            self.say(|w| w.give_back(0, exports));
         }
         let mut bytes = self.head.bytes;
         bytes.extend(self.body.concat());

@@ -15,6 +15,7 @@ pub enum Value {
 /// A name and a whole number.
 pub type Pair = (u8, u64);
 
+#[derive(Clone, PartialEq)]
 pub struct Object {
     pub label: u8,
     pub prototype: Option<usize>,
@@ -23,13 +24,14 @@ pub struct Object {
     pub pairs: BTreeMap<Pair, Value>,
 }
 
-#[derive(Clone, Copy)]
+#[derive(Clone, Copy, PartialEq)]
 pub struct Caller {
     pub frame: usize,
     pub y: u8,
     pub by_new: bool,
 }
 
+#[derive(Clone, PartialEq)]
 pub struct Frame {
     pub scope: u8,
     /// The frame that the called function object keeps.
@@ -40,6 +42,7 @@ pub struct Frame {
     pub thrown: Vec<Value>,
 }
 
+#[derive(Clone, PartialEq)]
 pub struct State<'a> {
     pub program: &'a Program,
     pub table: &'a [u64],

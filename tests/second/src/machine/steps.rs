@@ -158,9 +158,10 @@ impl State<'_> {
         self.call(Caller { frame, y, by_new: true }, callee, made, args)
     }
 
+    /// A frame without a caller, as the top frame is, has nobody to give the value to.
     fn give_back(&mut self, frame: usize, value: u8) -> Result<bool, String> {
-        let value = self.read(frame, value)?;
         let Some(caller) = self.frames[frame].caller else { return Ok(false) };
+        let value = self.read(frame, value)?;
         if caller.by_new && value == Value::Primitive {
             return Ok(false);
         }
