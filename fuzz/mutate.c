@@ -23,23 +23,33 @@ static size_t record_before(const uint8_t *bytes, size_t length, size_t at)
     return start;
 }
 
-/* Takes a record out, or puts a copy of it before another. */
-static size_t change_record(uint8_t *bytes, size_t length, size_t room, unsigned seed)
+/* Puts a record before the one that starts at `to`, where there is room. */
+static size_t put_record(uint8_t *bytes, size_t length, size_t room, size_t to, const uint8_t *record, size_t size)
 {
-    uint8_t record[LONGEST_RECORD];
-    size_t start = record_before(bytes, length, (seed >> 2) % length);
-    size_t size = next(bytes, length, start) - start;
-    if (seed & 1) {
-        memmove(bytes + start, bytes + start + size, length - start - size);
-        return length - size;
-    }
     if (length + size > room)
         return length;
-    size_t to = record_before(bytes, length, (seed >> 14) % length);
-    memcpy(record, bytes + start, size);
     memmove(bytes + to + size, bytes + to, length - to);
     memcpy(bytes + to, record, size);
     return length + size;
+}
+
+/* Takes a record out, or puts before another a copy of it or a return at the top level. */
+static size_t change_record(uint8_t *bytes, size_t length, size_t room, unsigned seed)
+{
+    uint8_t record[LONGEST_RECORD];
+    const uint8_t top_return[] = {23, 0, (uint8_t)(seed >> 22)};
+    size_t start = record_before(bytes, length, (seed >> 2) % length);
+    size_t size = next(bytes, length, start) - start;
+    size_t to = record_before(bytes, length, (seed >> 14) % length);
+    switch (seed & 3) {
+    case 0: return put_record(bytes, length, room, start, top_return, sizeof top_return);
+    case 1:
+        memcpy(record, bytes + start, size);
+        return put_record(bytes, length, room, to, record, size);
+    default:
+        memmove(bytes + start, bytes + start + size, length - start - size);
+        return length - size;
+    }
 }
 
 /* Gives one group of the head's bytes random values: mode, table, damage, seed, or one of the changes. */

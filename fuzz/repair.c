@@ -22,7 +22,7 @@ static const struct {
     const char *fields;
 } layout[] = {
     {1, "Nm"},   {2, "Ltb"},   {3, "d"},   {4, "Fvvvvvvv"},    {5, "Vko"},          {6, "g"},   {7, "hnh"}, {8, "gh"}, {16, "kvv"}, {17, "kvvKp"},
-    {18, "kvKv"}, {19, "kva"}, {20, "kvfp"}, {21, "kvvvvvvvvv"}, {22, "kvvxpvvvvvv"}, {23, "fv"}, {24, "kv"}, {25, "kv"}, {26, "kv"},
+    {18, "kvKv"}, {19, "kva"}, {20, "kvfp"}, {21, "kvvvvvvvvv"}, {22, "kvvxpvvvvvv"}, {23, "kv"}, {24, "kv"}, {25, "kv"}, {26, "kv"},
 };
 
 enum { KINDS = sizeof layout / sizeof layout[0] };

@@ -5,6 +5,7 @@ pub mod dense;
 pub mod filler;
 pub mod lists;
 pub mod maze;
+pub mod module;
 pub mod ordinary;
 pub mod turned;
 pub mod worst;

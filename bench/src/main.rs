@@ -3,7 +3,7 @@
 use bench::clingo::grounded;
 use bench::compared::{compared, Compared};
 use bench::files::filler::Filler;
-use bench::files::lists::{self, Named};
+use bench::files::lists::{self, Named, Two};
 use bench::files::ordinary::ordinary;
 use bench::files::worst::{worst, Shape};
 use bench::files::{dense, LONGEST};
@@ -27,6 +27,7 @@ fn main() {
     }
     widths(limit);
     keys(limit);
+    modules(limit);
     clingo();
     stack();
 }
@@ -92,17 +93,30 @@ fn widths(limit: Duration) {
 /// The same files under class keys and under outside keys.
 fn keys(limit: Duration) {
     for edition in Edition::BOTH {
-        println!("## {} edition: class keys and outside keys\n", capital(edition::name(edition)));
-        let mut rows = vec![Pair::titles(
-            ["verdict, class keys", "verdict, outside keys"],
-            ["check, class keys", "check, outside keys"],
-        )];
-        for (name, files) in lists::turned_files(edition) {
-            eprintln!("{}, {name}, class keys and outside keys", edition::name(edition));
-            rows.push(pairs::measure(&name, files.each_ref().map(|file| (edition, &file[..])), limit).line(limit));
-        }
-        table::print(&rows);
+        let files = lists::turned_files(edition);
+        twos(edition, "class keys and outside keys", ["class keys", "outside keys"], files, limit);
     }
+}
+
+/// The same files without and with returns at the top level.
+fn modules(limit: Duration) {
+    for edition in Edition::BOTH {
+        let files = lists::modules(edition);
+        twos(edition, "returns at the top level", ["without", "with returns"], files, limit);
+    }
+}
+
+/// A table of files in two versions, with a word for each version.
+fn twos(edition: Edition, title: &str, versions: [&str; 2], files: Vec<Two>, limit: Duration) {
+    println!("## {} edition: {title}\n", capital(edition::name(edition)));
+    let titles = ["verdict", "check"].map(|operation| versions.map(|version| format!("{operation}, {version}")));
+    let [verdicts, checks] = titles.each_ref().map(|two| two.each_ref().map(String::as_str));
+    let mut rows = vec![Pair::titles(verdicts, checks)];
+    for (name, files) in files {
+        eprintln!("{}, {name}, {title}", edition::name(edition));
+        rows.push(pairs::measure(&name, files.each_ref().map(|file| (edition, &file[..])), limit).line(limit));
+    }
+    table::print(&rows);
 }
 
 /// The time of the grounder gringo on ordinary and dense files, beside that of the archive.

@@ -3,6 +3,7 @@
 use bench::compared::checked;
 use bench::edition::name;
 use bench::files::filler::Filler;
+use bench::files::lists;
 use bench::files::maze::{Maze, Order, Rest, ORDERS};
 use bench::files::turned::turned;
 use bench::files::worst::{worst, SHAPES};
@@ -80,6 +81,19 @@ fn on_files_under_outside_keys() {
             assert_eq!(hand::verdict(edition, &outside), hand::verdict(edition, &file));
             agree(edition, &format!("class keys, {i}"), &file);
             agree(edition, &format!("outside keys, {i}"), &outside);
+        }
+    }
+}
+
+/// Returns at the top level add no fact.
+#[test]
+fn on_files_with_returns_at_the_top_level() {
+    for edition in Edition::BOTH {
+        for (name, [without, with]) in lists::modules(edition) {
+            assert_ne!(without, with);
+            assert_eq!(hand::verdict(edition, &without), hand::verdict(edition, &with));
+            agree(edition, &format!("without returns, {name}"), &without);
+            agree(edition, &format!("with returns, {name}"), &with);
         }
     }
 }

@@ -37,6 +37,8 @@ static const uint8_t outside_class_0[] = LOADED_UNDER(136);
 static const uint8_t outside_class_1[] = LOADED_UNDER(137);
 static const uint8_t outside_class_7[] = LOADED_UNDER(143);
 static const uint8_t bad_key[] = LOADED_UNDER(144);
+static const uint8_t top_return[] = {23, 0, 0};
+static const uint8_t top_return_of_undeclared[] = {23, 0, 9};
 static const uint8_t declared_twice[] = {2, 5, 1, 0, 2, 5, 1, 0};
 static const uint8_t function_missing[] = {2, 5, 2, 0};
 static uint8_t longest[PEZVORAN_FILE_BYTES];
@@ -66,6 +68,8 @@ static const struct {
     {"outside class 1", outside_class_1, sizeof outside_class_1, PEZVORAN_CONFINED, 0, 52},
     {"outside class 7", outside_class_7, sizeof outside_class_7, PEZVORAN_CONFINED, 0, 152},
     {"bad key", bad_key, sizeof bad_key, PEZVORAN_REFUSED, PEZVORAN_BAD_VALUE, 28},
+    {"return at the top level", top_return, sizeof top_return, PEZVORAN_CONFINED, 0, 45},
+    {"the same of an undeclared variable", top_return_of_undeclared, sizeof top_return_of_undeclared, PEZVORAN_REFUSED, PEZVORAN_BAD_VARIABLE, 0},
     {"declared twice", declared_twice, sizeof declared_twice, PEZVORAN_REFUSED, PEZVORAN_DECLARED_TWICE, 4},
     {"function missing", function_missing, sizeof function_missing, PEZVORAN_REFUSED, PEZVORAN_FUNCTION_MISSING, 4},
     {"longest", longest, sizeof longest, PEZVORAN_LEAKS, 3, 45},

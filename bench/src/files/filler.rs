@@ -17,6 +17,8 @@ pub enum Filler {
     Prims,
     /// All of these in random order.
     Mixed,
+    /// Returns at the top level, which nobody gets.
+    TopReturns,
 }
 
 pub const FILLERS: [Filler; 8] = [
@@ -58,6 +60,7 @@ fn record(course: &mut Course, filler: Filler, watching: bool) -> Vec<u8> {
         Filler::News => w.new_object(0, SINK, FUNCTIONS, SINK, DEEP, six),
         Filler::Returns if course.r.chance(1, 5) => w.call(0, SINK, FUNCTIONS, a, six),
         Filler::Returns => w.give_back(uncalled(course), a),
+        Filler::TopReturns => w.give_back(0, a),
         Filler::Throws => w.throw(0, a),
         Filler::Prims => w.prim(0, object),
         Filler::Mixed => {

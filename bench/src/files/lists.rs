@@ -2,6 +2,7 @@
 
 use super::filler::{Filler, FILLERS};
 use super::maze::{Maze, Order, Rest, ORDERS};
+use super::module::{calling_label_0, module, without_returns};
 use super::ordinary::{ordinary, ordinary_over};
 use super::turned::{turned, ADDED};
 use super::worst::{worst, Shape, SHAPES};
@@ -11,8 +12,8 @@ use std::ops::RangeInclusive;
 
 pub type Named = (String, Vec<u8>);
 
-/// A file under class keys, and the same under outside keys.
-pub type Turned = (String, [Vec<u8>; 2]);
+/// Two files with the same table: under class keys and under outside keys, or without and with returns at the top level.
+pub type Two = (String, [Vec<u8>; 2]);
 
 /// In kB, for the groups that grow.
 const SIZES: [usize; 6] = [1, 2, 4, 8, 16, 32];
@@ -38,11 +39,28 @@ pub fn dense_files(edition: Edition, seeds: RangeInclusive<u64>) -> Vec<Named> {
 }
 
 /// Dense files full of loads and of stores, and lures, each under class keys and under outside keys.
-pub fn turned_files(edition: Edition) -> Vec<Turned> {
+pub fn turned_files(edition: Edition) -> Vec<Two> {
     let dense = [17, 18].map(|kind| (format!("dense, kind {kind}"), dense::dense_under_class_keys(edition, kind, 1)));
     let lures = maze(edition, LONGEST - ADDED, 205, 8, Order::Backwards, Rest::Lures);
     let both = |(name, file): Named| (name, [file.clone(), turned(&file)]);
     dense.into_iter().chain([lures]).map(both).collect()
+}
+
+/// Ordinary files, one of them with calls of label 0, dense files, and courses, each without and with returns at the top level.
+pub fn modules(edition: Edition) -> Vec<Two> {
+    let mut files = Vec::new();
+    for seed in [1, 2] {
+        files.push((format!("ordinary {seed}"), module(&ordinary(edition, LONGEST, seed))));
+    }
+    let two_left = ordinary_over(edition.labels() - 5, 252, LONGEST, 3);
+    files.push(("ordinary 3, label 0 called".to_string(), module(&calling_label_0(&two_left))));
+    for kind in [0, 21] {
+        files.push((format!("dense, kind {kind}"), module(&dense::dense(edition, kind, 1))));
+    }
+    for shape in [Shape::Calls, Shape::Returns, Shape::Longest] {
+        files.push((format!("{shape:?}").to_lowercase(), worst(edition, shape, Filler::TopReturns, true, 1)));
+    }
+    files.into_iter().map(|(name, file)| (name, [without_returns(&file), file])).collect()
 }
 
 /// Every shape with mixed filler and each of the seeds, and the longest course with every filler, idle ones in the small edition alone.

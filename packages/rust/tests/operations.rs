@@ -26,6 +26,7 @@ in_both_editions! {
     rows_are_found_by_what_they_stand_for
     a_table_kept_as_bytes_is_the_same_table
     a_key_may_stand_for_all_names_outside_a_class
+    a_return_may_stand_at_the_top_level
 }
 
 const ACCEPTED: Answer = Answer::Accepted { count: 0 };
@@ -151,6 +152,20 @@ fn a_key_may_stand_for_all_names_outside_a_class<E: Edition>() {
     assert_eq!(verdict(&file(143), &mut table), Answer::Confined { facts: 152 });
     assert!(table.guest().eq([3, 6]));
     assert_eq!(verdict(&file(144), &mut table), refused(5, 28));
+}
+
+/// It adds no fact, whatever it returns. Its variable is judged as any other is, and a scope that is neither 0 nor a function is still refused.
+fn a_return_may_stand_at_the_top_level<E: Edition>() {
+    let (mut table, mut without) = (Table::<E>::new(), Table::<E>::new());
+    assert_eq!(verdict(&[23, 0, 0], &mut table), Answer::Confined { facts: 45 });
+    assert_eq!(verdict(&[23, 0, 9], &mut table), refused(3, 0));
+    for scope in 1..=5 {
+        assert_eq!(verdict(&[23, scope, 0], &mut table), refused(4, 0));
+    }
+    let file = [confined::<E>(), vec![23, 0, 2]].concat();
+    assert_eq!(verdict(&file, &mut table), verdict(&confined::<E>(), &mut without));
+    assert_eq!(table.words(), without.words());
+    assert_eq!(check(&file, &without), ACCEPTED);
 }
 
 #[test]
