@@ -108,6 +108,15 @@ call-adds :
 unfolding uses returnsOf
 call-adds = refl
 
+-- label 0 is no function: a call of it hands back nothing that the top level returns, and the return itself adds nothing
+call-of-label-0-adds : uses (say.call 0 13 12 10 (11 ∷ [])) ((variable 12, 2 ^ 0) ∷ (variable 15, 2 ^ 5) ∷ []) ≡ []
+unfolding uses returnsOf
+call-of-label-0-adds = refl
+
+top-return-adds : uses (say.return 0 15) ((variable 15, 2 ^ 5) ∷ []) ≡ []
+unfolding uses
+top-return-adds = refl
+
 -- new: t, which is 10, comes to hold 5; y, which is 13, gets what t held; the chain of 5 gets the prototype of the callee, found along its chain; and the
 -- callee gets t as this
 new-adds :

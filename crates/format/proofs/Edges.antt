@@ -71,6 +71,17 @@ pub bad-keys : Says (load 31 ∷ load 32 ∷ load 127 ∷ load 128 ∷ load 135 
 unfolding saidOf
 bad-keys = refl
 
+-- 4 and 3: a return in scope 0 is good, in scope 3 or 4, in a plain label's or in one that is not declared it is not; its value is judged where the scope
+-- is 0 too (request 02: "It is to be read")
+pub returns :
+    Says (
+    (23 ∷ 0 ∷ 0 ∷ []) ∷ (23 ∷ 0 ∷ 9 ∷ []) ∷ (23 ∷ 0 ∷ 1 ∷ []) ∷ (variable ++ 23 ∷ 0 ∷ 2 ∷ []) ∷ (23 ∷ 3 ∷ 0 ∷ []) ∷ (23 ∷ 4 ∷ 0 ∷ []) ∷ (23 ∷ 6 ∷ 9 ∷ [])
+    ∷ (plain ++ 23 ∷ 5 ∷ 0 ∷ []) ∷ (function ++ 23 ∷ 6 ∷ 0 ∷ []) ∷ (function ++ 23 ∷ 6 ∷ 9 ∷ []) ∷ []
+    )
+    ((0, 3) ∷ (3, 0) ∷ (3, 0) ∷ (0, 7) ∷ (4, 0) ∷ (4, 0) ∷ (4, 0) ∷ (4, 4) ∷ (0, 16) ∷ (3, 13) ∷ [])
+unfolding saidOf
+returns = refl
+
 -- 5: a name, an even mask, a type, a flag; a name of a variable whose owner is a function, which comes before 6
 pub bad-values :
     Says ((1 ∷ 32 ∷ 1 ∷ []) ∷ (1 ∷ 0 ∷ 2 ∷ []) ∷ (2 ∷ 5 ∷ 4 ∷ 0 ∷ []) ∷ (2 ∷ 5 ∷ 1 ∷ 2 ∷ []) ∷ (5 ∷ 2 ∷ 0 ∷ 32 ∷ []) ∷ (function ++ 5 ∷ 2 ∷ 6 ∷ 3 ∷ []) ∷ (function ++ variable ++ 5 ∷ 2 ∷ 6 ∷ 3 ∷ []) ∷ [])
@@ -103,6 +114,13 @@ lastFunction = 2 ∷ 255 ∷ 2 ∷ 0 ∷ 4 ∷ 255 ∷ 0 ∷ 0 ∷ 0 ∷ 0 ∷ 0
 
 abbrev pub owned : List ℕ
 owned = 5 ∷ 2 ∷ 255 ∷ 255 ∷ []
+
+-- a return in scope 255 and in scope 0 is good
+pub large-returns :
+    map (saidOf 256) ((lastFunction ++ 23 ∷ 255 ∷ 0 ∷ []) ∷ (23 ∷ 0 ∷ 0 ∷ []) ∷ (23 ∷ 0 ∷ 9 ∷ []) ∷ (23 ∷ 255 ∷ 0 ∷ []) ∷ [])
+    ≡ ((0, 16) ∷ (0, 3) ∷ (3, 0) ∷ (4, 0) ∷ [])
+unfolding saidOf
+large-returns = refl
 
 -- labels 64 and 255 are good, 4 is not; 255 owns a variable and is a scope, and the variable is declared by that
 pub large-labels :

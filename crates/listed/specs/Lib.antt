@@ -5,3 +5,5 @@ pub mod MoreFiles
 pub mod More
 pub mod OutsideFiles
 pub mod Outside
+pub mod TopReturnFiles
+pub mod TopReturn

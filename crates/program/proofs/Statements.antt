@@ -17,7 +17,7 @@ file =
     grant 2 ∷ property 5 4 7 ∷ held 3 8 ∷
     copy 6 2 3 ∷ load 6 2 3 4 5 ∷ store 6 2 131 3 ∷ make 6 3 7 ∷ makeFunction 6 2 6 8 ∷
     call 6 2 3 4 (10 ∷ 2 ∷ 3 ∷ 4 ∷ 0 ∷ 2 ∷ []) ∷ new 6 2 3 4 5 (10 ∷ 2 ∷ 3 ∷ 4 ∷ 0 ∷ 2 ∷ []) ∷
-    return 6 2 ∷ throw 6 3 ∷ catch 6 4 ∷ prim 6 10 ∷ return 6 3 ∷
+    return 6 2 ∷ throw 6 3 ∷ catch 6 4 ∷ prim 6 10 ∷ return 6 3 ∷ return 0 4 ∷
     []
 
 pub each-kind-says : programOf (reading file) .host ≡
@@ -37,6 +37,7 @@ pub each-kind-says : programOf (reading file) .host ≡
     (108, say.catch 6 4) ∷
     (111, say.prim 6 10) ∷
     (114, say.return 6 3) ∷
+    (117, say.return 0 4) ∷
     []
 unfolding reading programOf hostStatements statementsOf
 each-kind-says = refl
@@ -51,7 +52,7 @@ pub function-labels : map (isFunction (reading file .sheet)) (0 ∷ 1 ∷ 2 ∷ 
 unfolding reading
 function-labels = refl
 
--- "each return in scope f", the guest's own for label 3
-pub returns-of-each : map (returnsOf (programOf (reading file))) (6 ∷ 3 ∷ 9 ∷ []) ≡ (2 ∷ 3 ∷ []) ∷ (1 ∷ []) ∷ [] ∷ []
+-- "each return in scope f", the guest's own for label 3; the top level's are no function's
+pub returns-of-each : map (returnsOf (programOf (reading file))) (6 ∷ 3 ∷ 9 ∷ 0 ∷ []) ≡ (2 ∷ 3 ∷ []) ∷ (1 ∷ []) ∷ [] ∷ (4 ∷ []) ∷ []
 unfolding reading programOf hostStatements statementsOf returnsOf returnsIn statements guestsStatements guestStatements
 returns-of-each = refl

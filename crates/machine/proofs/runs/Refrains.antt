@@ -193,6 +193,25 @@ pub prim-drops-the-result : EndsWith
 unfolding outcome
 prim-drops-the-result = refl
 
+-- a return at top level puts its value nowhere, and the top frame steps on; it is carried out in no other frame (request 02)
+pub returned-to-nobody : EndsWith (journal ++ (variable 3 ∷ function 6 ∷ held 3 6 ∷ grant 3 ∷ return 0 2 ∷ []))
+    (does (host (return 0 2)) 0 ∷
+    grants 3 ∷
+    does guestCall 1 ∷  -- 6: frame 2
+    does (host (return 0 2)) 0 ∷
+    does (host (return 0 2)) 2 ∷
+    does (host (return 0 2)) 1 ∷ [])
+    (6 ∷ [])
+unfolding outcome
+returned-to-nobody = refl
+
+-- nor is it what a call of the global object gives
+pub label-0-returns-nothing : EndsWith (journal ++ (variable 3 ∷ variable 4 ∷ held 3 0 ∷ grant 4 ∷ call 0 4 3 0 [] ∷ return 0 2 ∷ []))
+    (does (host (call 0 4 3 0 [])) 0 ∷ does (host (return 0 2)) 0 ∷ grants 4 ∷ [])
+    []
+unfolding outcome
+label-0-returns-nothing = refl
+
 -- ---- throws
 
 -- function 6 throws the journal and calls the guest, which catches only what was thrown in its own frame or handed to it
