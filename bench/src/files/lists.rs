@@ -2,7 +2,7 @@
 
 use super::filler::{Filler, FILLERS};
 use super::maze::{Maze, Order, Rest, ORDERS};
-use super::module::{calling_label_0, module, without_returns};
+use super::module::{calling_label_0, chain_beside_calls, module, without_returns};
 use super::ordinary::{ordinary, ordinary_over};
 use super::turned::{turned, ADDED};
 use super::worst::{worst, Shape, SHAPES};
@@ -46,7 +46,8 @@ pub fn turned_files(edition: Edition) -> Vec<Two> {
     dense.into_iter().chain([lures]).map(both).collect()
 }
 
-/// Ordinary files, one of them with calls of label 0, dense files, and courses, each without and with returns at the top level.
+/// Ordinary files, one of them with calls of label 0, dense files, courses, and a chain beside calls of label 0, each without and with returns at the
+/// top level.
 pub fn modules(edition: Edition) -> Vec<Two> {
     let mut files = Vec::new();
     for seed in [1, 2] {
@@ -60,6 +61,7 @@ pub fn modules(edition: Edition) -> Vec<Two> {
     for shape in [Shape::Calls, Shape::Returns, Shape::Longest] {
         files.push((format!("{shape:?}").to_lowercase(), worst(edition, shape, Filler::TopReturns, true, 1)));
     }
+    files.push(("a chain beside calls of label 0".to_string(), chain_beside_calls(edition)));
     files.into_iter().map(|(name, file)| (name, [without_returns(&file), file])).collect()
 }
 

@@ -6,10 +6,14 @@
 use super::LONGEST;
 use crate::mutate::{split, Records};
 use second::generate::writer::Writer;
+use second::Edition;
 
-/// The bytes of a return.
+/// The bytes of a return, and of a call.
 const RETURN: usize = 3;
+const CALL: usize = 11;
 
+/// Holds every label.
+const SOURCE: u8 = 2;
 /// Holds label 0 alone.
 const CALLEE: u8 = 254;
 /// Takes what calls of label 0 return, which is nothing.
@@ -56,6 +60,28 @@ pub fn calling_label_0(file: &[u8]) -> Vec<u8> {
         }
     }
     changed.bytes
+}
+
+/// Every label goes down a chain of copies, the last link first, among calls of label 0. The whole chain is returned at the top
+/// level: whoever takes this for what label 0 returns looks at every call again after each link.
+pub fn chain_beside_calls(edition: Edition) -> Vec<u8> {
+    let chain = 3..CALLEE;
+    let mut file = Writer::new();
+    file.variable(CALLEE, 0, 255).variable(CAME_BACK, 0, 255).held(CALLEE, 0).variable(SOURCE, 0, 255);
+    for l in 5..=(edition.labels() - 1) as u8 {
+        file.label(l, 1, 0).held(SOURCE, l);
+    }
+    for v in chain.clone() {
+        file.variable(v, 0, 255).give_back(0, v);
+    }
+    let calls = (LONGEST - file.bytes.len() - 4 * chain.len()) / CALL / chain.len();
+    for v in chain.rev() {
+        file.copy(0, v, v - 1);
+        for _ in 0..calls {
+            file.call(0, CAME_BACK, CALLEE, 0, [0; 6]);
+        }
+    }
+    file.bytes
 }
 
 /// The file with a throw of variable 0 in the place of each return at the top level.

@@ -33,6 +33,9 @@ use sets::Set;
 
 // ---- callees and objects
 
+// The guest's label; those before it are no functions.
+const FIRST_FUNCTION: usize = 3;
+
 // Whether variable v holds one of the labels.
 fn holds(t: &[u64], wide: bool, v: Label, labels: Set) -> bool
     requires { ⌜ wordCount wide ≤ length (now t) ⌝ }
@@ -124,7 +127,7 @@ pub fn note_callees(
 )
     requires { ⌜ wordCount wide ≤ length (now t) ⌝ }
 {
-    for l in 0..rows::labels(wide) {
+    for l in FIRST_FUNCTION..rows::labels(wide) {
         let f = low_byte(l);
         note_thrown(t, wide, notes, f);
         note_handed(

@@ -1,6 +1,8 @@
 -- A turn for each label. Assumes nothing.
 use borrow.Author.Needs.{needs}
 use Prim.Native.Nat.{_≤_, _-_}
+use native.Mathlib.Omega.{arith}
+use Rattle.records.proofs.Walks.{five-labels}
 use Rattle.search.proofs.grown.note_callees.Statement.{statement}
 use Rattle.search.proofs.grown.note_callees.Tie as tie
 
@@ -12,6 +14,6 @@ abbrev μ-loop : tie.MeasureT-loop
 
 pub note-callees-spec : {M : Type 1} → statement M
 note-callees-spec =
-    tie.close (tie.spec Inv-loop μ-loop (λ c κs. search needs) (λ c. search needs) (λ c κs. search needs) (λ c κs. search needs)
+    tie.close (tie.spec Inv-loop μ-loop (λ c κs. search needs) (λ c. omega (arith, five-labels (c .before .before .args .wide), c .labels .ensures)) (λ c κs. search needs) (λ c κs. search needs)
     (λ c κs. search needs) (λ c κs. search needs) (λ c. search needs) (λ c. search needs) (λ c. search needs)
     (λ c κs. search needs) (λ c. search needs))
