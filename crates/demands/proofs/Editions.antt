@@ -15,6 +15,7 @@ use Rattle.sets.proofs.Numbers.{number-bit}
 use Rattle.verdicts.specs.Check.{Accepts}
 use Rattle.verdicts.proofs.Words.{words-rows, words-same, words-beyond, words-length, words-one}
 use Rattle.editions.proofs.Same.{small-in-large}
+use Rattle.toplevel.proofs.Silent.{silent}
 use Rattle.demands.specs.Editions.{RoundTrip, InWords, Edition, Editions}
 use Rattle.demands.proofs.Demands.{demands}
 
@@ -68,5 +69,6 @@ editions =
       one-word = rows-one;
       one-word-room = λ t. div-one (length t);
       one-word-left = words-one;
+      top-returns = silent;
       small-in-large = small-in-large;
     }

@@ -13,6 +13,7 @@ use Rattle.format.specs.Reading.{Readable}
 use Rattle.verdicts.specs.Verdict.{verdictOutcome, verdictTable, verdictWords, Confined}
 use Rattle.verdicts.specs.Check.{Accepts}
 use Rattle.editions.specs.Same.{Same}
+use Rattle.toplevel.specs.Silent.{Silent}
 use Rattle.demands.specs.Demands.{Demands}
 
 -- words and rows carry one another
@@ -58,5 +59,7 @@ pub record Editions : Type 0 where
   pub one-word : (t : List ℕ) → rowsOf 1 t ≡ t
   pub one-word-room : (t : List ℕ) → roomFor 1 t ≡ length t
   pub one-word-left : (xs t : List ℕ) → Words t → verdictWords 1 64 xs t ≡ verdictTable 64 xs t
+  -- Req 02: a return at top level "is to be read and have no effect on any fact. The machine does nothing on that step."
+  pub top-returns : (L : ℕ) → 5 ≤ L → Silent L
   -- "A file readable in the small edition has the same verdict and count in the large one."
   pub small-in-large : (xs : List ℕ) → Readable 64 xs → Same 64 256 xs

@@ -1,7 +1,7 @@
 -- The rules of a program are the same with the widened sheet and n labels more: none of these labels is declared, and of all others the sheet says the
 -- same. Assumes nothing.
 use mathlib.Core.Path.{_≡_, refl, ap, fun-ext, _∙_}
-use mathlib.Core.List.{List, [], _∷_, map}
+use mathlib.Core.List.{map}
 use mathlib.Core.Bool.{Bool, true, false, not}
 use Prim.Native.Nat.{ℕ, zero, suc, _+_, _*_, _<_, _≤_}
 use native.Mathlib.Nat.{add-zero}
@@ -11,7 +11,7 @@ use lib.Seq.{take-append-le, drop-append-le}
 use lib.Dec.{eqb}
 use borrow.Author.Tests.{eqb-true}
 use Rattle.rows.specs.Row.{chain}
-use Rattle.rules.specs.Rule.{Rule, give, include, each, over, _also_, when, every, chosen}
+use Rattle.rules.specs.Rule.{Rule, give, include, each, over, _also_, every, chosen}
 use Rattle.rules.proofs.Labels.{chosen-off}
 use Rattle.format.specs.Sheet.{typeOf, declared}
 use Rattle.format.proofs.Arrays.{padded}

@@ -4,9 +4,8 @@ use mathlib.Core.List.{List, [], _∷_, _++_, List·Memᴰ, List·Memᴰ·head, 
 use mathlib.Core.Option.{Option}
 use Prim.Native.Nat.{ℕ, zero, suc, _≤_, _<_}
 use native.Mathlib.Omega.{arith}
-use native.Mathlib.Decide.{ℕ-discrete, decLt}
-use lib.ListN.{length, getD, set, length-set, length-append, List·getD-append, List·getD-eq-default}
-use lib.Seq.{getD-set-same, getD-set-other, set-out, getD-append-seam}
+use lib.ListN.{length, getD, set, length-set, length-append, List·getD-append}
+use lib.Seq.{getD-append-seam}
 use Rattle.rules.specs.Table.{Table, Has}
 use Rattle.machine.proofs.laws.Writing.{field-set}
 use Rattle.machine.specs.State.{Value, primitive, object, Object, noObject, orPrimitive}

@@ -8,7 +8,7 @@ use native.Mathlib.Omega.{arith}
 use lib.ListN.{length, take, drop, length-append}
 use lib.Seq.{take-at, drop-at}
 use Rattle.format.specs.Sheet.{Sheet, start}
-use Rattle.format.specs.Fields.{good, Fits}
+use Rattle.format.specs.Fields.{Fits}
 use Rattle.format.specs.Records.{Record, WellFormed, after}
 use Rattle.format.specs.Reading.{Reading, readFile, Readable, written, sheetAfter, AllWellFormed, positioned}
 use Rattle.format.proofs.File.{Complete, readable-complete, complete-read}

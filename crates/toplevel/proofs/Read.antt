@@ -1,13 +1,13 @@
 -- A file with a return at top level put in is read as the file without: the same sheet and refusal, the same records, those behind it three bytes
 -- further on. Assumes nothing.
-use mathlib.Core.Path.{_≡_, refl, sym, ap, _∙_}
-use mathlib.Core.List.{List, [], _∷_, _++_, map, append-nil}
+use mathlib.Core.Path.{_≡_, refl, ap, _∙_}
+use mathlib.Core.List.{List, [], _∷_, _++_, map}
 use mathlib.Core.Bool.{Bool, true, false, cond, _&&_}
 use Prim.Native.Nat.{ℕ, zero, suc, _+_, _≤_}
 use native.Mathlib.Omega.{arith}
 use lib.ListN.{length, take, drop, length-append}
 use lib.Dec.{eqb}
-use Rattle.layout.specs.Layout.{fieldsOf, bodyLength, scope, variable}
+use Rattle.layout.specs.Layout.{bodyLength, variable}
 use Rattle.format.specs.Sheet.{Sheet, start}
 use Rattle.format.specs.Fields.{good, Fits}
 use Rattle.format.specs.Records.{Record, WellFormed, misnamed, twice, after}

@@ -1,30 +1,30 @@
 -- A return at top level says nothing. Assumes nothing.
 use mathlib.Core.Path.{_≡_, refl, sym, ap, subst, _∙_}
-use mathlib.Core.List.{List, [], _∷_, _++_, List·Memᴰ}
+use mathlib.Core.List.{List, _++_}
 use mathlib.Core.Bool.{Bool, true, false, cond}
-use Prim.Native.Nat.{ℕ, _+_, _≤_}
+use Prim.Native.Nat.{ℕ, _*_, _≤_}
 use native.Mathlib.Omega.{arith}
 use native.Mathlib.Decide.{ℕ-discrete}
-use lib.ListN.{length, take, drop}
+use lib.ListN.{length, drop}
 use lib.Dec.{eqb, ltb}
-use lib.Count.{trailingZeros}
 use borrow.Author.Tests.{eq-eqb, ne-eqb}
 use Rattle.rows.specs.Row.{rowCount}
-use Rattle.answer.specs.Outcome.{confined, leaks, accepted, refused, holds}
-use Rattle.rules.specs.Table.{Table, facts}
+use Rattle.rows.specs.Run.{roomFor, rowsOf, laid}
+use Rattle.answer.specs.Outcome.{refused, holds}
+use Rattle.rules.specs.Table.{Table}
 use Rattle.format.specs.Sheet.{typeOf}
 use Rattle.format.specs.Reading.{Reading, readFile, Readable}
 use Rattle.format.proofs.Readable.{readable-ready}
 use Rattle.program.specs.Statement as say
 use Rattle.program.specs.Program.{Program, hostStatements, programOf}
 use Rattle.analysis.specs.Verdict.{leastTable}
-use Rattle.verdicts.specs.Verdict.{admitted, forbiddenHeld, holder, judged, programIn, verdictOutcome, verdictTable}
+use Rattle.verdicts.specs.Verdict.{admitted, judged, programIn, verdictOutcome, verdictTable, verdictWords}
 use Rattle.verdicts.specs.Check.{cleaned, checked, checkOutcome}
 use Rattle.machine.specs.State.{State}
-use Rattle.machine.specs.Step.{Choice, Move, act, statementAt, step, run}
+use Rattle.machine.specs.Step.{act, step, run}
 use Rattle.machine.specs.Start as machine
 use Rattle.machine.proofs.laws.Grounded.{start-grounded, returns-to-nobody}
-use Rattle.toplevel.specs.Silent.{topReturn, PutIn, Reached, Same, Silent}
+use Rattle.toplevel.specs.Silent.{PutIn, Reached, Same, Silent}
 use Rattle.toplevel.proofs.Read.{Read, put-in-read}
 use Rattle.toplevel.proofs.Found.{taken-out}
 use Rattle.toplevel.proofs.Bare.{saying, Among, program-is, return-among}
@@ -82,16 +82,21 @@ module _ (L : ℕ) (five : 5 ≤ L) (ys xs : List ℕ) (i : PutIn L ys xs) where
   least : Readable L ys → leastTable L (programIn L xs) ≡ leastTable L (programIn L ys)
   least ok = ap (leastTable L) (program-is d e read) ∙ least-same (programOf d) (hostStatements (e .records)) among (plain ok) L
 
+  table-same : (t : Table) → verdictTable L xs t ≡ verdictTable L ys t
+  unfolding verdictTable
+  table-same t =
+      admitted-same L (length t) d e (λ n at. t) (leastTable L (programIn L xs) ++ drop (rowCount L) t) (leastTable L (programIn L ys) ++ drop (rowCount L) t)
+      (read .same-refusal) (λ ok. ap (λ (u : Table). u ++ drop (rowCount L) t) (least ok)) (λ _. refl)
+
   pub same-holds : Same L ys xs
-  unfolding verdictTable verdictOutcome checkOutcome
+  unfolding verdictWords verdictOutcome checkOutcome
   same-holds =
       record {
         refusal = read .same-refusal;
         position = read .further-on;
         sheet = read .same-sheet;
-        table = λ t.
-            admitted-same L (length t) d e (λ n at. t) (leastTable L (programIn L xs) ++ drop (rowCount L) t) (leastTable L (programIn L ys) ++ drop (rowCount L) t)
-            (read .same-refusal) (λ ok. ap (λ (u : Table). u ++ drop (rowCount L) t) (least ok)) (λ _. refl);
+        table = table-same;
+        words = λ k t. ap (λ (u : Table). laid k u ++ drop (k * roomFor k t) t) (table-same (rowsOf k t));
         outcome = λ ok rows.
             admitted-same L rows d e refused (judged L (programIn L xs)) (judged L (programIn L ys)) (read .same-refusal)
             (λ z. ap (judged L) (program-is d e read) ∙ judged-same L (programOf d) (hostStatements (e .records)) among (plain ok)) (λ no. absurd (no ok));

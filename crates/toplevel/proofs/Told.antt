@@ -1,20 +1,18 @@
 -- A return at top level tells nothing: no rule asks for what label 0 returns, and the rule of the statement itself is none. So the least table and the
 -- check's gap are those of the program without it. Assumes nothing.
 use mathlib.Core.Path.{_≡_, refl, sym, ap, fun-ext, _∙_}
-use mathlib.Core.List.{List, [], _∷_, _++_, map, append-assoc, map-append}
-use mathlib.Core.Bool.{Bool, true, false, cond}
+use mathlib.Core.List.{List, [], _∷_, _++_, map, map-append}
+use mathlib.Core.Bool.{Bool, true, false}
 use Prim.Native.Nat.{ℕ, zero, suc}
-use native.Mathlib.Omega.{arith}
 use lib.Dec.{eqb}
 use borrow.Author.Tests.{eqb-true, ne-eqb}
 use Rattle.rules.specs.Table.{Table, emptyTable}
 use Rattle.rules.specs.Rule.{Rule, none, over, _also_, every}
 use Rattle.rules.specs.Round.{fire, round, sameTable, settle, enoughRounds, leastAbove}
 use Rattle.rules.specs.Gap.{gapBelow, gap}
-use Rattle.rows.specs.Row.{rowCount}
 use Rattle.format.specs.Sheet.{typeOf}
 use Rattle.program.specs.Statement as say
-use Rattle.program.specs.Program.{Program, guestsStatements, statements, namesOf, isFunction, returnedBy, returnsIn, returnsOf}
+use Rattle.program.specs.Program.{Program, statements, isFunction, returnedBy, returnsIn, returnsOf}
 use Rattle.analysis.specs.Rules.{ruleOf, chainRule, declaredLabels, guestChains, rules}
 use Rattle.analysis.specs.Verdict.{leastTable}
 use Rattle.analysis.proofs.Alike.{Alike, rule-alike}

@@ -12,7 +12,7 @@ use Rattle.format.specs.Fields.{good}
 use Rattle.format.specs.Records.{Record}
 use Rattle.format.specs.Reading.{readFile, Readable, longest, written, sheetAfter, AllWellFormed}
 use Rattle.program.specs.Statement as say
-use Rattle.verdicts.specs.Verdict.{verdictOutcome, verdictTable, programIn}
+use Rattle.verdicts.specs.Verdict.{verdictOutcome, verdictTable, verdictWords, programIn}
 use Rattle.verdicts.specs.Check.{checkOutcome}
 use Rattle.machine.specs.State.{State}
 use Rattle.machine.specs.Step.{Choice, Move, act, statementAt, step, run}
@@ -46,6 +46,7 @@ pub record Same (L : ℕ) (ys xs : List ℕ) : Type 0 where
   pub sheet : readFile L xs .sheet ≡ readFile L ys .sheet
   -- "no effect on any fact": the same words in the same rows, the same verdict, label and count
   pub table : (t : Table) → verdictTable L xs t ≡ verdictTable L ys t
+  pub words : (k : ℕ) (t : List ℕ) → verdictWords k L xs t ≡ verdictWords k L ys t  -- in the words that a caller lends, k to a row
   pub outcome : Readable L ys → (rows : ℕ) → verdictOutcome L rows xs ≡ verdictOutcome L rows ys
   -- and the check says the same of every table
   pub check : Readable L ys → (t : Table) → checkOutcome L xs t ≡ checkOutcome L ys t

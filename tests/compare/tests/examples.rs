@@ -158,7 +158,7 @@ fn walks_stay_within_the_table_of_each_example() {
 /// The leaks of `adsafe-leaks` and `gallery-leaks` take more steps in a row than random walks find, and the alarm of `wrapper-shared` is false.
 #[test]
 fn walks_come_to_hold_what_the_short_examples_leak() {
-    let short = ["journal-leaks", "logger-leaks", "hidden-leaks", "site-shared"];
+    let short = ["journal-leaks", "logger-leaks", "hidden-leaks", "module-leaks", "site-shared"];
     for example in examples().iter().filter(|example| short.contains(&example.name.as_str())) {
         let program = read_in(example.edition(), &example.file).expect("readable");
         let (Answer::Leaks { label, .. }, table) = example.judged() else { panic!("{} leaks", example.name) };
@@ -186,6 +186,8 @@ fn one_changed_record_makes_a_confined_example_leak() {
         ("mint-confined", "23 17 26", "23 17 17"),                                // getDecr returns decr, not its box
         ("mint-confined", "17 18 29 28 8 32", "17 18 29 28 8 31"),                // src.getDecr and brand.seal share a wrapper
         ("adsafe-confined", "18 8 7 130 15", "18 8 7 128 15"),                    // lib takes every name
+        ("module-confined", "23 0 8", "23 7 8"),                                  // the return stands in note
+        ("module-confined", "6 4", "6 8"),                                        // the guest is granted exports
         ("hidden-confined", "1 5 3", "1 5 1"),                                    // ___add___ is not on the list
         ("hidden-confined", "1 4 3", "1 4 1"),                                    // ___journal___ is not on the list
         ("hidden-confined", "17 8 11 3 137 15", "17 8 11 3 128 15"),              // get takes every name

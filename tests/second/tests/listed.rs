@@ -342,6 +342,40 @@ fn returns_at_the_top_level() {
     }
 }
 
+/// The other files of `crates/listed/specs/TopReturnFiles.antt`, whose verdicts are theorems there.
+#[test]
+fn the_top_level_returns_to_nobody() {
+    let journal_returned = |k| {
+        let mut w = file_seven();
+        w.give_back(k, 2);
+        w
+    };
+    let called = |returned: bool| {
+        let mut w = file_three(255, 0);
+        let top =
+            |w: &mut Writer, values: &[u8]| values.iter().filter(|_| returned).for_each(|&v| _ = w.give_back(0, v));
+        top(&mut w, &[2]);
+        w.label(6, 2, 0).variable(3, 0, 255).function(6, 0, [0; 6]).held(3, 6);
+        top(&mut w, &[3]);
+        w.variable(4, 0, 255).held(4, 0).variable(5, 0, 255);
+        w.call(0, 5, 4, 0, [0; 6]).call(0, 5, 3, 0, [0; 6]).grant(5);
+        top(&mut w, &[0, 2, 4, 5]);
+        w
+    };
+    let list = [
+        (journal_returned(6), Verdict::Leaks(5), 316),
+        (journal_returned(0), Verdict::Confined, 152),
+        (called(false), Verdict::Confined, 54),
+        (called(true), Verdict::Confined, 54),
+    ];
+    for edition in Edition::BOTH {
+        for (w, verdict, facts) in &list {
+            let answer = answer(edition, &w.bytes);
+            assert_eq!((answer.verdict, answer.facts), (*verdict, *facts), "{edition:?} {:?}", w.bytes);
+        }
+    }
+}
+
 /// Everything the host has is returned at the top level, the forbidden object too. The host calls the global object, a function and what the
 /// guest gives, with new too, catches what is thrown, and grants all results: still nobody gets it.
 #[test]

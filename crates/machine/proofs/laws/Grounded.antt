@@ -1,23 +1,23 @@
 -- After every run no frame of scope 0 has a caller, since label 0 is no function; so a return in scope 0 does nothing. Assumes nothing.
-use mathlib.Core.Path.{_≡_, refl, sym, _∙_}
+use mathlib.Core.Path.{_≡_, refl, sym}
 use mathlib.Core.List.{List, [], _∷_}
-use mathlib.Core.Bool.{Bool, true, false, cond, _&&_}
+use mathlib.Core.Bool.{Bool, true, false, cond}
 use mathlib.Core.Option.{Option, none, some}
 use Prim.Native.Nat.{ℕ, zero, suc}
 use lib.ListN.{length}
-use lib.Dec.{eqb, ltb}
+use lib.Dec.{ltb}
 use borrow.Author.Tests.{eqb-true}
 use Rattle.format.specs.Sheet.{typeOf}
 use Rattle.format.proofs.Tests.{and-second}
 use Rattle.program.specs.Statement as say
 use Rattle.program.specs.Program.{Program, Guest, statements, isFunction}
-use Rattle.machine.specs.State.{Value, primitive, object, Object, Caller, Frame, State, noFrame, objectAt, frameIn, frameAt, withObject, withFrame, setObject, setFrame, withBagged, withValue, withVariable, withThrown}
+use Rattle.machine.specs.State.{Value, primitive, object, Object, Caller, Frame, State, noFrame, objectAt, frameIn, frameAt, withObject, withFrame, setObject, setFrame, withBagged, withVariable, withThrown}
 use Rattle.machine.specs.Lookup.{nearestOf}
-use Rattle.machine.specs.Variable.{Place, nowhere, bag, named, local, placeOf, read, writeIn, writePlace, write, writeAll}
+use Rattle.machine.specs.Variable.{Place, nowhere, bag, named, local, placeOf, writeIn, writePlace, write, writeAll}
 use Rattle.machine.specs.Property.{loadFrom, storeTo}
 use Rattle.machine.specs.Call.{frameOf, enter, callOf, newOf, primOf, returnTo, handTo}
-use Rattle.machine.specs.Step.{Choice, Move, act, hand, inScope, grantOf, perform, statementAt, makesSense, step, run}
-use Rattle.machine.specs.Start.{Filling, property, held, nothing, guestFrames, startLabels, unfilled, fillings, fillOne, fill, start}
+use Rattle.machine.specs.Step.{Choice, Move, act, hand, grantOf, perform, statementAt, makesSense, step, run}
+use Rattle.machine.specs.Start.{Filling, property, held, nothing, guestFrames, startLabels, unfilled, fillings, fill, start}
 use Rattle.machine.specs.Laws.{NothingCalledTheTop, ReturnsToNobody}
 use Rattle.machine.proofs.laws.Places.{at-append, at-set}
 
