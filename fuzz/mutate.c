@@ -42,7 +42,7 @@ static size_t change_record(uint8_t *bytes, size_t length, size_t room, unsigned
     size_t size = next(bytes, length, start) - start;
     size_t to = record_before(bytes, length, (seed >> 14) % length);
     switch (seed & 3) {
-    case 0: return put_record(bytes, length, room, start, top_return, sizeof top_return);
+    case 0: return put_record(bytes, length, room, seed >> 31 ? length : start, top_return, sizeof top_return);
     case 1:
         memcpy(record, bytes + start, size);
         return put_record(bytes, length, room, to, record, size);

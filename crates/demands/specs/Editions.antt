@@ -1,5 +1,6 @@
 -- Both editions (document 02, Req 13: "The rules and the soundness argument are shown with the number of labels, 5 to 256, as a parameter, and both
--- editions take them over."), and what a caller sees who lends words of 64 bits, k to a row. proofs/Editions.antt proves `Editions`. Assumes nothing.
+-- editions take them over."), what a caller sees who lends words of 64 bits, k to a row, and what requests say of both.
+-- proofs/Editions.antt proves `Editions`. Assumes nothing.
 use mathlib.Core.Path.{_≡_}
 use mathlib.Core.Logic.{_↔_}
 use mathlib.Core.List.{List, _++_}

@@ -4,6 +4,7 @@ pub mod Fields
 pub mod Records
 pub mod Reading
 pub mod Written
+pub mod Placed
 pub mod File
 pub mod Effect
 pub mod Later

@@ -15,7 +15,7 @@ Whole r = (length (r .first) ≡ 256) × (length (r .second) ≡ 256) × (length
 abbrev pub withMark : List ℕ → ℕ → ℕ → List ℕ
 withMark ws f v = set ws (4 * f + v / 64) (union (getD ws (4 * f + v / 64) 0) (2 ^ (v % 64)))
 
--- function k returns variable v too, and nothing else is new
+-- function k, or the top level where k is 0, returns variable v too, and nothing else is new
 pub record Marked (k v : ℕ) (r u : Returns) : Type 0 where
   pub whole : Whole u
   pub source : (f x : ℕ) → f < 256 → x < 256 → HandsBack u f x → HandsBack r f x ⊎ ((f ≡ k) × (x ≡ v))

@@ -111,7 +111,7 @@ fn mark_in(ws: &mut [u64; 256], f: usize, x: Var)
     ws[at] = words::join(ws[at], words::single(v % 64));
 }
 
-// Variable x, among those that function k returns.
+// Variable x, among those that function k returns, or the top level where k is 0.
 pub fn mark(
     ra: &mut [u64; 256],
     rb: &mut [u64; 256],
@@ -155,7 +155,8 @@ fn collect_at(
     }
 }
 
-// The variables that functions return, from the records of a file; the guest, function 3, returns its bag, variable 1.
+// The variables that functions return, from the records of a file; the guest, function 3, returns its bag, variable 1. What the top level returns stands
+// at label 0, which is no function: the promise says nothing of it, and no rule asks for it.
 pub fn collect(
     wide: bool,
     file: &[u8],

@@ -128,7 +128,7 @@ pub fn ends_written(
 
 // ---- read
 
-// The variables that function f of an array of 64 returns.
+// The variables that function f of an array of 64 returns, or the top level where f is 0 in the first array.
 fn four(ws: &[u64; 256], f: usize) -> Set {
     let i = 4 * (f % 64);
     Set {
@@ -139,7 +139,7 @@ fn four(ws: &[u64; 256], f: usize) -> Set {
     }
 }
 
-// The variables that a function returns.
+// The variables that a function returns, or the top level where it is label 0.
 pub fn returned(
     first: &[u64; 256],
     second: &[u64; 256],

@@ -1,6 +1,7 @@
 -- The laws of specs/Laws.antt: what a step can bring about, whatever the program, the state, the frame and the choice (Outward to Leaving); what does
 -- nothing (Idle); what no step takes back (Grown); runs (Running); what stands at the start (Labels to Filling); and some of them put together (Granted).
 pub mod Places
+pub mod Changes
 pub mod Grown
 pub mod Outward
 pub mod Reading

@@ -1,5 +1,5 @@
 -- The laws of the machine, in the words of document 01, "The handset machine": what a step can bring about from any state, whatever the program, in a
--- frame f of scope k; what no step takes back; what stands at the start. A machine that does less than one of these sentences says breaks its law.
+-- frame f of scope k; what no step takes back; what a return at top level does after any run; what stands at the start. A machine that does less than one of these sentences says breaks its law.
 -- The files of proofs/ prove them. Assumes nothing.
 use mathlib.Core.Path.{_≡_}
 use mathlib.Core.Logic.{_⊎_}
@@ -168,7 +168,7 @@ module _ (p : Program) (s : State) (c : Choice) where
 -- ---- a return at top level
 
 module _ (p : Program) where
-  -- "the top frame" alone is of scope 0, and nothing called it; where label 0 is no function no call makes another
+  -- where label 0 is no function, no frame of scope 0 has a caller: nothing called "the top frame", and no call makes another
   abbrev pub NothingCalledTheTop : Type 0
   NothingCalledTheTop =
       (typeOf (p .sheet) 0 ≡ 2 → ⊥) → (moves : List Move) (f : ℕ) → frameAt (run p moves (start p)) f .scope ≡ 0

@@ -8,5 +8,6 @@ pub mod Round
 pub mod Least
 pub mod Derive
 pub mod Gap
+pub mod Alike
 pub mod Premises
 pub mod Beyond

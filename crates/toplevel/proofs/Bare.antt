@@ -9,7 +9,8 @@ use Rattle.program.specs.Statement as say
 use Rattle.program.specs.Statement.{statementsOf}
 use Rattle.program.specs.Program.{Program, placed, guestsStatements, hostStatements, guestsOf, programOf, statements}
 use Rattle.toplevel.specs.Silent.{topReturn}
-use Rattle.toplevel.proofs.Read.{later, Read}
+use Rattle.format.proofs.Placed.{later}
+use Rattle.toplevel.proofs.Read.{Read}
 
 abbrev pub bare : List (ℕ × say.Statement) → List say.Statement
 bare ss = map (λ s. s .1) ss
@@ -47,8 +48,8 @@ said-later n (r ∷ rs) = ap (λ (ss : List say.Statement). statementsOf (r .1) 
 -- ---- the two programs
 
 -- a program with other statements of the host
-abbrev pub saying : Program → List (ℕ × say.Statement) → Program
-saying q h = record { sheet = q .sheet; host = h; guests = q .guests }
+abbrev pub withHost : Program → List (ℕ × say.Statement) → Program
+withHost q h = record { sheet = q .sheet; host = h; guests = q .guests }
 
 -- the host's statements h are those of q, with a return at top level among them
 pub record Among (q : Program) (h : List (ℕ × say.Statement)) : Type 0 where
@@ -63,7 +64,7 @@ module _ (q : Program) (h : List (ℕ × say.Statement)) (a : Among q h) where
   pub earlier : List say.Statement
   earlier = bare (guestsStatements (q .guests)) ++ a .front
 
-  pub bare-with : bare (statements (saying q h)) ≡ earlier ++ (say.return 0 (a .value) ∷ a .back)
+  pub bare-with : bare (statements (withHost q h)) ≡ earlier ++ (say.return 0 (a .value) ∷ a .back)
   unfolding statements earlier
   bare-with =
       bare-append (guestsStatements (q .guests)) h
@@ -78,7 +79,7 @@ module _ (q : Program) (h : List (ℕ × say.Statement)) (a : Among q h) where
       ∙ sym (append-assoc (bare (guestsStatements (q .guests))) (a .front) (a .back))
 
 module _ (d e : Reading) (r : Read d e) where
-  pub program-is : programOf e ≡ saying (programOf d) (hostStatements (e .records))
+  pub program-is : programOf e ≡ withHost (programOf d) (hostStatements (e .records))
   unfolding programOf
   program-is = λ i. record { sheet = r .same-sheet i; host = hostStatements (e .records); guests = guestsOf (r .same-sheet i) }
 

@@ -1,59 +1,17 @@
 -- A return at top level that is read can be taken out: before it stand whole records, and its value is good under the sheet that they make.
 -- Assumes nothing.
-use mathlib.Core.Path.{_≡_, refl, sym, ap, subst, _∙_}
-use mathlib.Core.Logic.{_⊎_, inl, inr}
-use mathlib.Core.List.{List, [], _∷_, _++_, List·Memᴰ, List·Memᴰ·cases-cons, List·Memᴰ·not-nil, append-assoc}
+use mathlib.Core.Path.{_≡_, sym, ap, subst, _∙_}
+use mathlib.Core.List.{List, [], _∷_, _++_, List·Memᴰ, append-assoc}
 use Prim.Native.Nat.{ℕ, _+_}
 use native.Mathlib.Omega.{arith}
 use lib.ListN.{length, take, drop, length-append}
 use lib.Seq.{take-at, drop-at}
-use Rattle.format.specs.Sheet.{Sheet, start}
+use Rattle.format.specs.Sheet.{start}
 use Rattle.format.specs.Fields.{Fits}
-use Rattle.format.specs.Records.{Record, WellFormed, after}
-use Rattle.format.specs.Reading.{Reading, readFile, Readable, written, sheetAfter, AllWellFormed, positioned}
+use Rattle.format.specs.Reading.{Reading, readFile, Readable, written, AllWellFormed}
 use Rattle.format.proofs.File.{Complete, readable-complete, complete-read}
+use Rattle.format.proofs.Placed.{written-append, Place, place-of, front-well-formed}
 use Rattle.toplevel.specs.Silent.{topReturn, PutIn}
-
-written-append : (rs qs : List Record) → written (rs ++ qs) ≡ written rs ++ written qs
-unfolding written
-written-append [] qs = refl
-written-append (r ∷ rs) qs =
-    ap (λ (bytes : List ℕ). (r .kind ∷ r .body) ++ bytes) (written-append rs qs) ∙ sym (append-assoc (r .kind ∷ r .body) (written rs) (written qs))
-
--- the records before a place, the record there and those behind it
-record Place (r : Record) (rs : List Record) (at from : ℕ) : Type 0 where
-  before : List Record
-  behind : List Record
-  all : rs ≡ before ++ (r ∷ behind)
-  place : at ≡ from + length (written before)
-
-place-of : (rs : List Record) (from at : ℕ) (r : Record) → List·Memᴰ (at, r) (positioned from rs) → Place r rs at from
-unfolding positioned written
-place-of [] from at r m = absurd (List·Memᴰ·not-nil m)
-place-of (x ∷ rs) from at r m = go (List·Memᴰ·cases-cons m) (place-of rs (from + 1 + length (x .body)) at r)
-  where
-    go : (_≡_ {A = ℕ × Record} (at, r) (from, x)) ⊎ List·Memᴰ (at, r) (positioned (from + 1 + length (x .body)) rs)
-        → (List·Memᴰ (at, r) (positioned (from + 1 + length (x .body)) rs) → Place r rs at (from + 1 + length (x .body))) → Place r (x ∷ rs) at from
-    go (inl e) rest =
-        let here : at ≡ from = ap (λ (p : ℕ × Record). p .0) e in
-        record { before = []; behind = rs; all = ap (λ (p : ℕ × Record). p .1 ∷ rs) (sym e); place = omega arith }
-    go (inr i) rest =
-        let p = rest i in
-        record {
-          before = x ∷ p .before;
-          behind = p .behind;
-          all = ap (λ (qs : List Record). x ∷ qs) (p .all);
-          place = omega (arith, p .place, length-append (x .body) (written (p .before)));
-        }
-
--- records before a record are well formed, and it is under the sheet that they make
-front-well-formed : (L : ℕ) (s : Sheet) (rs qs : List Record) (r : Record) → AllWellFormed L s (rs ++ (r ∷ qs))
-    → AllWellFormed L s rs × WellFormed L (sheetAfter s rs) r
-unfolding AllWellFormed sheetAfter
-front-well-formed L s [] qs r w = (tt, w .0)
-front-well-formed L s (x ∷ rs) qs r w =
-    let h = front-well-formed L (after s (x .kind) (x .body)) rs qs r (w .1) in
-    ((w .0, h .0), h .1)
 
 pub taken-out : (L : ℕ) (xs : List ℕ) → Readable L xs → (at v : ℕ) → List·Memᴰ (at, topReturn v) (readFile L xs .records)
     → PutIn L (take at xs ++ drop (at + 3) xs) xs

@@ -2,47 +2,19 @@
 -- further on. Assumes nothing.
 use mathlib.Core.Path.{_≡_, refl, ap, _∙_}
 use mathlib.Core.List.{List, [], _∷_, _++_, map}
-use mathlib.Core.Bool.{Bool, true, false, cond, _&&_}
-use Prim.Native.Nat.{ℕ, zero, suc, _+_, _≤_}
+use mathlib.Core.Bool.{true}
+use Prim.Native.Nat.{ℕ, _+_, _≤_}
 use native.Mathlib.Omega.{arith}
-use lib.ListN.{length, take, drop, length-append}
-use lib.Dec.{eqb}
-use Rattle.layout.specs.Layout.{bodyLength, variable}
+use lib.ListN.{length, length-append}
+use Rattle.layout.specs.Layout.{variable}
 use Rattle.format.specs.Sheet.{Sheet, start}
 use Rattle.format.specs.Fields.{good, Fits}
 use Rattle.format.specs.Records.{Record, WellFormed, misnamed, twice, after}
-use Rattle.format.specs.Reading.{Reading, stopped, preceded, recordRefusal, readOn, readFrom, lacking, finished, readFile, longest, written, sheetAfter, positioned}
+use Rattle.format.specs.Reading.{Reading, preceded, readFrom, finished, readFile, longest, written, sheetAfter, positioned}
 use Rattle.format.proofs.Reading.{joined, read-record, written-first}
 use Rattle.format.proofs.File.{short-enough}
+use Rattle.format.proofs.Placed.{later, moved, moved-from, finished-is}
 use Rattle.toplevel.specs.Silent.{topReturn, PutIn}
-
--- n bytes further on
-abbrev pub later : ℕ → ℕ × Record → ℕ × Record
-later n q = (q .0 + n, q .1)
-
-abbrev moved : ℕ → Reading → Reading
-moved n d = record { records = map (later n) (d .records); sheet = d .sheet; refusal = d .refusal; position = d .position + n }
-
--- what is read does not depend on where it stands
-moved-on : (L f n : ℕ) (s : Sheet) (at : ℕ) (xs : List ℕ) → readOn L f s (at + n) xs ≡ moved n (readOn L f s at xs)
-unfolding readOn
-moved-on L zero n s at xs = refl
-moved-on L (suc f) n s at [] = refl
-moved-on L (suc f) n s at (k ∷ xs) =
-    let b = take (bodyLength k) xs in
-    let further : at + n + 1 + bodyLength k ≡ at + 1 + bodyLength k + n = omega arith in
-    go (eqb (recordRefusal L s k xs) 0) (record { kind = k; body = b }) _ _
-    (ap (λ (i : ℕ). readOn L f (after s k b) i (drop (bodyLength k) xs)) further
-    ∙ moved-on L f n (after s k b) (at + 1 + bodyLength k) (drop (bodyLength k) xs))
-  where
-    go : (t : Bool) (r : Record) (d e : Reading) → d ≡ moved n e
-        → cond t (preceded (at + n) r d) (stopped s (recordRefusal L s k xs) (at + n)) ≡ moved n (cond t (preceded at r e) (stopped s (recordRefusal L s k xs) at))
-    go true r d e h = ap (preceded (at + n) r) h
-    go false r d e h = refl
-
-moved-from : (L n : ℕ) (s : Sheet) (at : ℕ) (xs : List ℕ) → readFrom L s (at + n) xs ≡ moved n (readFrom L s at xs)
-unfolding readFrom
-moved-from L n s at xs = moved-on L (length xs) n s at xs
 
 -- the record may stand where its value is good
 return-well-formed : (L : ℕ) (s : Sheet) (v : ℕ) → good L s variable v ≡ true → WellFormed L s (topReturn v)
@@ -60,21 +32,6 @@ return-read L s at v xs e =
     ∙ ap (preceded at (topReturn v)) (moved-from L 3 s at xs)
 
 -- ---- the whole file
-
--- refusal 7 changes nothing but the number
-abbrev undefinedIn : Reading → Bool
-undefinedIn d = eqb (d .refusal) 0 && lacking (d .sheet .types) (d .sheet .defined)
-
-abbrev seven : Bool → Reading → Reading
-seven b d = record { records = d .records; sheet = d .sheet; refusal = cond b 7 (d .refusal); position = d .position }
-
-finished-is : (d : Reading) → finished d ≡ seven (undefinedIn d) d
-unfolding finished
-finished-is d = go (undefinedIn d)
-  where
-    go : (b : Bool) → cond b (record { records = d .records; sheet = d .sheet; refusal = 7; position = d .position }) d ≡ seven b d
-    go true = refl
-    go false = refl
 
 -- what is read without the record, and with it
 pub record Read (d e : Reading) : Type 0 where

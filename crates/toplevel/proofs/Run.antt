@@ -16,7 +16,7 @@ use Rattle.program.specs.Program.{Program, noRecord, statements}
 use Rattle.machine.specs.State.{State, frameAt}
 use Rattle.machine.specs.Step.{Choice, Move, act, hand, scopeOf, inScope, perform, statementAt, step, run}
 use Rattle.machine.proofs.laws.Grounded.{Grounded, after-step, top-return-idle}
-use Rattle.toplevel.proofs.Bare.{bare, saying, Among, earlier, bare-with, bare-without}
+use Rattle.toplevel.proofs.Bare.{bare, withHost, Among, earlier, bare-with, bare-without}
 use Rattle.toplevel.proofs.Steps.{perform-same}
 
 -- ---- steps
@@ -124,11 +124,11 @@ module _ (xs ys : List say.Statement) (r : say.Statement) where
 -- ---- runs
 
 -- a step goes by the statements without their positions
+statement-bare : (q : Program) (i : ℕ) → statementAt q i .1 ≡ getD (bare (statements q)) i beyond
+statement-bare q i = sym (List·getD-map (λ (x : ℕ × say.Statement). x .1) (statements q) i (noRecord, beyond))
+
 step-bare : (q : Program) (c : Choice) (s : State) → step q (act c) s ≡ stepBy q (bare (statements q)) (c .statement) c s
-step-bare q c s =
-    let e : statementAt q (c .statement) .1 ≡ getD (bare (statements q)) (c .statement) beyond =
-    sym (List·getD-map (λ (x : ℕ × say.Statement). x .1) (statements q) (c .statement) (noRecord, beyond)) in
-    rw (e, ← length-map (statements q) (λ (x : ℕ × say.Statement). x .1))
+step-bare q c s = rw (statement-bare q (c .statement), ← length-map (statements q) (λ (x : ℕ × say.Statement). x .1))
 
 -- the same from this state
 abbrev Answered : Program → Program → Move → State → Type 0
@@ -136,16 +136,19 @@ Answered p q m s = (m' : Move) × (step p m s ≡ step q m' s)
 
 module _ (q : Program) (h : List (ℕ × say.Statement)) (a : Among q h) where
   abbrev with-it : Program
-  with-it = saying q h
+  with-it = withHost q h
 
   abbrev top : say.Statement
   top = say.return 0 (a .value)
 
+  -- whatever else the host says
+  step-host : (ss : List say.Statement) (i : ℕ) (c : Choice) (s : State) → stepBy with-it ss i c s ≡ stepBy q ss i c s
+  step-host ss i c s = rw (perform-same q h c s (c .frame) (getD ss i beyond))
+
   step-with : (c : Choice) (s : State) → step with-it (act c) s ≡ stepBy q (earlier q h a ++ (top ∷ a .back)) (c .statement) c s
   step-with c s =
       step-bare with-it c s
-      ∙ ap (λ (u : State). cond (ltb (c .statement) (length (bare (statements with-it))) && (ltb (c .frame) (length (s .frames)) && inScope (scopeOf (getD (bare (statements with-it)) (c .statement) beyond)) (frameAt s (c .frame) .scope))) u s)
-      (perform-same q h c s (c .frame) (getD (bare (statements with-it)) (c .statement) beyond))
+      ∙ step-host (bare (statements with-it)) (c .statement) c s
       ∙ ap (λ (ss : List say.Statement). stepBy q ss (c .statement) c s) (bare-with q h a)
 
   step-without : (c : Choice) (s : State) → step q (act c) s ≡ stepBy q (earlier q h a ++ a .back) (c .statement) c s
@@ -174,7 +177,7 @@ module _ (q : Program) (h : List (ℕ × say.Statement)) (a : Among q h) where
     -- the return itself
     returning : (c : Choice) → c .statement ≡ length (earlier q h a) → statementAt with-it (c .statement) .1 ≡ top
     returning c e =
-        sym (List·getD-map (λ (x : ℕ × say.Statement). x .1) (statements with-it) (c .statement) (noRecord, beyond))
+        statement-bare with-it (c .statement)
         ∙ ap (λ (ss : List say.Statement). getD ss (c .statement) beyond) (bare-with q h a)
         ∙ ap (λ (i : ℕ). getD (earlier q h a ++ (top ∷ a .back)) i beyond) e
         ∙ getD-append-seam (earlier q h a) top (a .back) beyond

@@ -10,7 +10,7 @@ use lib.Dec.{eqb, ltb}
 use borrow.Author.Tests.{eq-eqb, ne-eqb}
 use Rattle.rows.specs.Row.{rowCount}
 use Rattle.rows.specs.Run.{roomFor, rowsOf, laid}
-use Rattle.answer.specs.Outcome.{refused, holds}
+use Rattle.answer.specs.Outcome.{refused}
 use Rattle.rules.specs.Table.{Table}
 use Rattle.format.specs.Sheet.{typeOf}
 use Rattle.format.specs.Reading.{Reading, readFile, Readable}
@@ -24,10 +24,10 @@ use Rattle.machine.specs.State.{State}
 use Rattle.machine.specs.Step.{act, step, run}
 use Rattle.machine.specs.Start as machine
 use Rattle.machine.proofs.laws.Grounded.{start-grounded, returns-to-nobody}
-use Rattle.toplevel.specs.Silent.{PutIn, Reached, Same, Silent}
+use Rattle.toplevel.specs.Silent.{PutIn, Reached, Unchanged, Silent}
 use Rattle.toplevel.proofs.Read.{Read, put-in-read}
 use Rattle.toplevel.proofs.Found.{taken-out}
-use Rattle.toplevel.proofs.Bare.{saying, Among, program-is, return-among}
+use Rattle.toplevel.proofs.Bare.{withHost, Among, program-is, return-among}
 use Rattle.toplevel.proofs.Told.{least-same, gap-same}
 use Rattle.toplevel.proofs.Start.{start-same}
 use Rattle.toplevel.proofs.Run.{run-with, run-without}
@@ -39,11 +39,11 @@ top-plain L five xs ok e = omega (arith, e, readable-ready L xs five ok .made .l
 -- ---- verdict and check of the two programs
 
 module _ (L : ℕ) (q : Program) (h : List (ℕ × say.Statement)) (a : Among q h) (plain : typeOf (q .sheet) 0 ≡ 2 → ⊥) where
-  judged-same : judged L (saying q h) ≡ judged L q
+  judged-same : judged L (withHost q h) ≡ judged L q
   unfolding judged
   judged-same = rw (least-same q h a plain L)
 
-  checked-same : (t : Table) → checked L (saying q h) t ≡ checked L q t
+  checked-same : (t : Table) → checked L (withHost q h) t ≡ checked L q t
   unfolding checked
   checked-same t = rw (gap-same q h a plain L (cleaned L (q .sheet) t))
 
@@ -88,9 +88,9 @@ module _ (L : ℕ) (five : 5 ≤ L) (ys xs : List ℕ) (i : PutIn L ys xs) where
       admitted-same L (length t) d e (λ n at. t) (leastTable L (programIn L xs) ++ drop (rowCount L) t) (leastTable L (programIn L ys) ++ drop (rowCount L) t)
       (read .same-refusal) (λ ok. ap (λ (u : Table). u ++ drop (rowCount L) t) (least ok)) (λ _. refl)
 
-  pub same-holds : Same L ys xs
+  pub unchanged-holds : Unchanged L ys xs
   unfolding verdictWords verdictOutcome checkOutcome
-  same-holds =
+  unchanged-holds =
       record {
         refusal = read .same-refusal;
         position = read .further-on;
@@ -104,8 +104,7 @@ module _ (L : ℕ) (five : 5 ≤ L) (ys xs : List ℕ) (i : PutIn L ys xs) where
             admitted-same L (length t) d e refused (checked L (programIn L xs) t) (checked L (programIn L ys) t) (read .same-refusal)
             (λ z. ap (λ (p : Program). checked L p t) (program-is d e read) ∙ checked-same L (programOf d) (hostStatements (e .records)) among (plain ok) t)
             (λ no. absurd (no ok));
-        reached = reached;
-        reached-without = reached-without;
+        reached = λ ok s. (reached-without ok s, reached-with ok s);
       }
     where
       q : Program
@@ -114,19 +113,19 @@ module _ (L : ℕ) (five : 5 ≤ L) (ys xs : List ℕ) (i : PutIn L ys xs) where
       h : List (ℕ × say.Statement)
       h = hostStatements (e .records)
 
-      reached : Readable L ys → (s : State) → Reached L xs s → Reached L ys s
-      reached ok s r =
+      reached-without : Readable L ys → (s : State) → Reached L xs s → Reached L ys s
+      reached-without ok s r =
           let w = run-without q h among (plain ok) (r .0) (machine.start q) (start-grounded q (plain ok)) in (
             w .0,
             r .1 ∙ ap (λ (p : Program). run p (r .0) (machine.start p)) (program-is d e read)
-                ∙ ap (run (saying q h) (r .0)) (start-same q h among) ∙ w .1,
+                ∙ ap (run (withHost q h) (r .0)) (start-same q h among) ∙ w .1,
           )
 
-      reached-without : Readable L ys → (s : State) → Reached L ys s → Reached L xs s
-      reached-without ok s r =
+      reached-with : Readable L ys → (s : State) → Reached L ys s → Reached L xs s
+      reached-with ok s r =
           let w = run-with q h among (r .0) (machine.start q) in (
             w .0,
-            r .1 ∙ w .1 ∙ ap (run (saying q h) (w .0)) (sym (start-same q h among))
+            r .1 ∙ w .1 ∙ ap (run (withHost q h) (w .0)) (sym (start-same q h among))
                 ∙ ap (λ (p : Program). run p (w .0) (machine.start p)) (sym (program-is d e read)),
           )
 
@@ -136,7 +135,7 @@ pub silent : (L : ℕ) → 5 ≤ L → Silent L
 unfolding programOf
 silent L five =
     record {
-      same = same-holds L five;
+      unchanged = unchanged-holds L five;
       put-in = λ xs ok at v m. taken-out L xs ok at v m;
       idle = λ xs ok s r c v e.
           subst (λ (u : State). step (programIn L xs) (act c) u ≡ u) (sym (r .1))

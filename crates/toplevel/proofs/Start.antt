@@ -9,7 +9,7 @@ use Rattle.program.specs.Program.{Program}
 use Rattle.machine.specs.State.{State}
 use Rattle.machine.specs.Property.{fresh}
 use Rattle.machine.specs.Start.{Filling, property, held, nothing, fillingOf, fillings, labelsWith, labelsFrom, firstLabels, startLabels, startPrototype, startObjects, topFrame, unfilled, isPropertyOf, numberAmong, fillOne, fill, start}
-use Rattle.toplevel.proofs.Bare.{bare, saying, Among}
+use Rattle.toplevel.proofs.Bare.{bare, withHost, Among}
 use Rattle.toplevel.proofs.Steps.{write-same}
 
 labels-more : (ls : List ℕ) (xs ys : List Filling) → labelsFrom ls (xs ++ (nothing ∷ ys)) ≡ labelsFrom ls (xs ++ ys)
@@ -28,7 +28,7 @@ numbered-nothing xs ys h l n = omega (arith, h l n)
 
 module _ (q : Program) (h : List (ℕ × say.Statement)) where
   abbrev p : Program
-  p = saying q h
+  p = withHost q h
 
   objects-same : (ls : List ℕ) → startObjects p ls ≡ startObjects q ls
   objects-same [] = refl
@@ -66,7 +66,7 @@ module _ (q : Program) (h : List (ℕ × say.Statement)) (a : Among q h) where
   fillings-bare : (hs : List (ℕ × say.Statement)) → map (λ (s : ℕ × say.Statement). fillingOf (s .1)) hs ≡ map fillingOf (bare hs)
   fillings-bare hs = sym (map-map fillingOf (λ (s : ℕ × say.Statement). s .1) hs)
 
-  fillings-with : fillings (saying q h) ≡ front ++ (nothing ∷ back)
+  fillings-with : fillings (withHost q h) ≡ front ++ (nothing ∷ back)
   unfolding front back
   fillings-with =
       fillings-bare h ∙ ap (map fillingOf) (a .with-it) ∙ map-append fillingOf (a .front) (say.return 0 (a .value) ∷ a .back)
@@ -75,13 +75,13 @@ module _ (q : Program) (h : List (ℕ × say.Statement)) (a : Among q h) where
   unfolding front back
   fillings-without = fillings-bare (q .host) ∙ ap (map fillingOf) (a .without) ∙ map-append fillingOf (a .front) (a .back)
 
-  labels-same : startLabels (saying q h) ≡ startLabels q
+  labels-same : startLabels (withHost q h) ≡ startLabels q
   labels-same =
       ap (labelsFrom firstLabels) fillings-with ∙ labels-more firstLabels front back ∙ sym (ap (labelsFrom firstLabels) fillings-without)
 
-  pub start-same : start (saying q h) ≡ start q
+  pub start-same : start (withHost q h) ≡ start q
   start-same =
-      let p = saying q h in
+      let p = withHost q h in
       let ls = startLabels q in
       ap (λ (ms : List ℕ). fill p ms [] (unfilled p ms) (fillings p)) labels-same
       ∙ ap (fill p ls [] (unfilled p ls)) fillings-with

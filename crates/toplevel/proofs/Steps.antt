@@ -14,11 +14,11 @@ use Rattle.machine.specs.Variable.{placeOf, read, readPlace, readAll, write, wr
 use Rattle.machine.specs.Property.{fresh, next, loadFrom, storeTo}
 use Rattle.machine.specs.Call.{frameOf, enter, prototypeFound, callOf, newOf, primOf, returnTo, throwIn}
 use Rattle.machine.specs.Step.{Choice, member, primNames, isThrown, thrownIn, grantOf, perform}
-use Rattle.toplevel.proofs.Bare.{saying}
+use Rattle.toplevel.proofs.Bare.{withHost}
 
 module _ (q : Program) (h : List (ℕ × say.Statement)) where
   abbrev p : Program
-  p = saying q h
+  p = withHost q h
 
   place-same : (v : ℕ) → placeOf p v ≡ placeOf q v
   place-same zero = refl

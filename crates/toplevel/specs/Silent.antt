@@ -1,6 +1,7 @@
 -- A return at top level says nothing (document 02, Req 02: "It is to be read and have no effect on any fact. The machine does nothing on that step.").
 -- L is the number of labels. proofs/Silent.antt proves it for every L from 5 up. Assumes nothing.
 use mathlib.Core.Path.{_≡_}
+use mathlib.Core.Logic.{_↔_}
 use mathlib.Core.List.{List, [], _∷_, _++_, List·Memᴰ}
 use mathlib.Core.Bool.{true}
 use Prim.Native.Nat.{ℕ, _+_, _≤_}
@@ -38,8 +39,9 @@ abbrev pub Reached : ℕ → List ℕ → State → Type 0
 Reached L xs s = (moves : List Move) × (s ≡ run (programIn L xs) moves (machine.start (programIn L xs)))
 
 -- what is said of the file with the record is said of the file without, positions aside
-pub record Same (L : ℕ) (ys xs : List ℕ) : Type 0 where
-  -- "It is to be read": what is refused of the file is refused of what stands behind the record, three bytes further on
+pub record Unchanged (L : ℕ) (ys xs : List ℕ) : Type 0 where
+  -- "It is to be read": the file with it is refused exactly where the file without is, by the same number, three bytes further on (the position of a
+  -- readable file is its length)
   pub refusal : readFile L xs .refusal ≡ readFile L ys .refusal
   pub position : readFile L xs .position ≡ readFile L ys .position + 3
   -- the same declarations
@@ -51,14 +53,14 @@ pub record Same (L : ℕ) (ys xs : List ℕ) : Type 0 where
   -- and the check says the same of every table
   pub check : Readable L ys → (t : Table) → checkOutcome L xs t ≡ checkOutcome L ys t
   -- the machine reaches the same states
-  pub reached : Readable L ys → (s : State) → Reached L xs s → Reached L ys s
-  pub reached-without : Readable L ys → (s : State) → Reached L ys s → Reached L xs s
+  pub reached : Readable L ys → (s : State) → Reached L xs s ↔ Reached L ys s
 
 pub record Silent (L : ℕ) : Type 0 where
-  pub same : (ys xs : List ℕ) → PutIn L ys xs → Same L ys xs
-  -- every such record of a readable file can be taken out
+  pub unchanged : (ys xs : List ℕ) → PutIn L ys xs → Unchanged L ys xs
+  -- every such record of a readable file can be taken out, and by `refusal` what is left is readable, so that all of them can
   pub put-in : (xs : List ℕ) → Readable L xs → (at v : ℕ) → List·Memᴰ (at, topReturn v) (readFile L xs .records)
       → PutIn L (take at xs ++ drop (at + 3) xs) xs
-  -- "The machine does nothing on that step.", in whatever state a run has left
+  -- "The machine does nothing on that step.", in every state of the machine: those that a run reaches. In these no frame of scope 0 has a caller
+  -- (`NothingCalledTheTop` of the crate machine)
   pub idle : (xs : List ℕ) → Readable L xs → (s : State) → Reached L xs s → (c : Choice) (v : ℕ)
       → statementAt (programIn L xs) (c .statement) .1 ≡ say.return 0 v → step (programIn L xs) (act c) s ≡ s

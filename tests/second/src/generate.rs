@@ -35,7 +35,7 @@ pub use top_returns::top_returns_in;
 /// A file with the name to call it by.
 pub type Named = (String, Vec<u8>);
 
-/// One file of every seeded generator but those of full files for the seed.
+/// One file of every seeded generator for the seed, but for those whose files are always full.
 pub fn every_in(edition: Edition, seed: u64) -> Vec<Named> {
     let makers = [random_in, structured_in, rounds_in, spread_in, damaged_in, edge_mix_in, top_returns_in];
     makers.map(|make| make(edition, seed)).to_vec()

@@ -210,7 +210,7 @@ fn returns_at_the_top_level_are_everywhere() {
     for (edition, (make, seeds)) in Edition::BOTH.into_iter().flat_map(|e| makers.map(|make| (e, make))) {
         let with = (0..seeds).filter(|&seed| returns_at_the_top(&make(edition, seed).1)).count();
         println!("{edition:?} {}: {with} of {seeds} files return at the top level", make(edition, 0).0);
-        assert!(with as u64 >= seeds / 40, "{edition:?} {}", make(edition, 0).0);
+        assert!(40 * with as u64 >= seeds, "{edition:?} {}", make(edition, 0).0);
     }
 }
 
@@ -236,7 +236,8 @@ fn called(record: Record) -> Option<(usize, u8)> {
     }
 }
 
-/// Values of every sort are returned at the top level, in files in which the host calls the global object by every kind of record.
+/// Values of every sort are returned at the top level, in files in which calls, news and prims of the host have the global object. (Files of many
+/// rounds have few calls, and structured ones not every sort of value.)
 #[test]
 fn every_sort_of_return_at_the_top_level() {
     for (edition, (title, make)) in Edition::BOTH.into_iter().flat_map(|e| READABLE.map(|make| (e, make))) {

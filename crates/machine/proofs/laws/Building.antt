@@ -7,7 +7,6 @@ use Prim.Native.Nat.{ℕ, _<_}
 use native.Mathlib.Omega.{arith}
 use lib.ListN.{length}
 use Rattle.format.specs.Sheet.{typeOf}
-use Rattle.program.specs.Statement as say
 use Rattle.program.specs.Program.{Program}
 use Rattle.machine.specs.State.{Value, object, State, objectAt, withObject}
 use Rattle.machine.specs.Variable.{globalObject, write}

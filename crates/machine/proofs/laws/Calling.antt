@@ -7,7 +7,6 @@ use Prim.Native.Nat.{ℕ, _<_}
 use native.Mathlib.Omega.{arith}
 use lib.ListN.{length, replicate, length-append}
 use lib.Seq.{getD-append-seam}
-use Rattle.program.specs.Statement as say
 use Rattle.program.specs.Program.{Program}
 use Rattle.machine.specs.State.{Value, primitive, object, Frame, State, noFrame, objectAt, withFrame}
 use Rattle.machine.specs.Call.{frameOf, enter}

@@ -2,23 +2,20 @@
 use mathlib.Core.Path.{refl, sym, _∙_, subst}
 use mathlib.Core.List.{List, [], _∷_, _++_, List·Memᴰ, Memᴰ·append-left}
 use mathlib.Core.Bool.{Bool, true, false, cond}
-use mathlib.Core.Option.{Option, none, some}
 use Prim.Native.Nat.{ℕ, _<_}
 use native.Mathlib.Omega.{arith}
 use native.Mathlib.Decide.{ℕ-discrete}
 use lib.ListN.{length, getD, set, length-set, length-append, List·getD-append}
 use lib.Seq.{getD-set-same, getD-set-other}
 use lib.Dec.{eqb}
-use Rattle.program.specs.Statement as say
-use Rattle.program.specs.Program.{Program}
-use Rattle.machine.specs.State.{Value, primitive, object, Object, Caller, Frame, State, noObject, noFrame, objectAt, frameAt, withObject, withFrame, setObject, setFrame, withBagged, withValue, withVariable, withThrown}
-use Rattle.machine.specs.Lookup.{nearestOf}
-use Rattle.machine.specs.Variable.{Place, nowhere, bag, named, local, placeOf, globalObject, writeIn, writePlace, write, writeAll}
-use Rattle.machine.specs.Property.{loadFrom, storeTo}
-use Rattle.machine.specs.Call.{enter, callOf, newOf, primOf, returnTo, handTo}
-use Rattle.machine.specs.Step.{Choice, Move, act, hand, grantOf, perform, step, run}
+use Rattle.program.specs.Program.{Program, thisOf, formalsOf}
+use Rattle.machine.specs.State.{Value, object, Object, Frame, State, noObject, noFrame, objectAt, frameAt, withObject, withFrame, setObject, setFrame, withBagged, withValue, withVariable, withThrown}
+use Rattle.machine.specs.Variable.{write, writeAll}
+use Rattle.machine.specs.Call.{frameOf, enter}
+use Rattle.machine.specs.Step.{Move, step, run}
 use Rattle.machine.specs.Laws.{TakesNothingBack}
 use Rattle.machine.specs.Grown.{SameObject, SameFrame, Grown}
+use Rattle.machine.proofs.laws.Changes.{Kept, kept-write, kept-write-all, kept-step, kept-run}
 
 same-object : (o : Object) → SameObject o o
 same-object o = record { same-label = refl; same-prototype = refl; same-kept = refl }
@@ -133,116 +130,39 @@ grown-bagged s b x =
     go c true y m = Memᴰ·append-left (x ∷ []) m
     go c false y m = m
 
-grown-cond : (b : Bool) {s x y : State} → Grown s x → Grown s y → Grown s (cond b x y)
-grown-cond true h k = h
-grown-cond false h k = k
+-- ---- steps and runs
 
 module _ (p : Program) where
-  pub grown-write : (s : State) (f v : ℕ) (x : Value) → Grown s (write p s f v x)
-  grown-write s f v x = go (placeOf p v)
-    where
-      at : (g : Option ℕ) → Grown s (writeIn s g v x)
-      at none = grown-refl s
-      at (some g) =
-          grown-set-frame s g (withVariable (frameAt s g) v x)
-          (record { same-scope = refl; same-outward = refl; same-caller = refl; thrown-stays = λ y m. m })
+  grown-kept : Kept p Grown
+  grown-kept =
+      record {
+        nothing = grown-refl;
+        together = grown-trans;
+        object-made = grown-object;
+        value-stored = grown-value;
+        variable-set = λ s f v x.
+            grown-set-frame s f (withVariable (frameAt s f) v x)
+            (record { same-scope = refl; same-outward = refl; same-caller = refl; thrown-stays = λ y m. m });
+        value-thrown = grown-thrown;
+        value-bagged = grown-bagged;
+        frame-made = λ s f y byNew o is. grown-frame s (frameOf o f y byNew);
+      }
 
-      go : (q : Place) → Grown s (writePlace q s f v x)
-      go nowhere = grown-refl s
-      go bag = grown-bagged s v x
-      go (named n) = grown-value s globalObject n 0 x
-      go (local k) = at (nearestOf s f k)
+  pub grown-write : (s : State) (f v : ℕ) (x : Value) → Grown s (write p s f v x)
+  grown-write = kept-write p Grown grown-kept
 
   pub grown-write-all : (s : State) (f : ℕ) (vs : List ℕ) (xs : List Value) → Grown s (writeAll p s f vs xs)
-  grown-write-all s f [] xs = grown-refl s
-  grown-write-all s f (v ∷ vs) [] = grown-refl s
-  grown-write-all s f (v ∷ vs) (x ∷ xs) = grown-trans (grown-write s f v x) (grown-write-all (write p s f v x) f vs xs)
-
-  -- ---- one change after another
-
-  after-object : {s : State} (s' : State) (o : Object) → Grown s s' → Grown s (withObject s' o)
-  after-object s' o g = grown-trans g (grown-object s' o)
-
-  after-value : {s : State} (s' : State) (i n j : ℕ) (x : Value) → Grown s s' → Grown s (setObject s' i (withValue (objectAt s' i) n j x))
-  after-value s' i n j x g = grown-trans g (grown-value s' i n j x)
-
-  after-frame : {s : State} (s' : State) (f : Frame) → Grown s s' → Grown s (withFrame s' f)
-  after-frame s' f g = grown-trans g (grown-frame s' f)
-
-  after-thrown : {s : State} (s' : State) (f : ℕ) (x : Value) → Grown s s' → Grown s (setFrame s' f (withThrown (frameAt s' f) x))
-  after-thrown s' f x g = grown-trans g (grown-thrown s' f x)
-
-  after-write : {s : State} (s' : State) (f v : ℕ) (x : Value) → Grown s s' → Grown s (write p s' f v x)
-  after-write s' f v x g = grown-trans g (grown-write s' f v x)
-
-  after-write-all : {s : State} (s' : State) (f : ℕ) (vs : List ℕ) (xs : List Value) → Grown s s' → Grown s (writeAll p s' f vs xs)
-  after-write-all s' f vs xs g = grown-trans g (grown-write-all s' f vs xs)
-
-  ruleset changes = (grown-refl, grown-cond, after-object, after-value, after-frame, after-thrown, after-write, after-write-all)
-
-  -- ---- each part of a step
-
-  grown-load : (s : State) (f y : ℕ) (x : Value) (u c n j : ℕ) → Grown s (loadFrom p s f y x u c n j)
-  grown-load s f y (object i) u c n j = search changes
-  grown-load s f y primitive u c n j = search changes
-
-  grown-store : (s : State) (x a : Value) (n j : ℕ) → Grown s (storeTo p s x a n j)
-  grown-store s primitive a n j = search changes
-  grown-store s (object i) a n j = search changes
+  grown-write-all = kept-write-all p Grown grown-kept
 
   pub grown-enter : (s : State) (f y : ℕ) (byNew : Bool) (o : Object) (this : Value) (xs : List Value) → Grown s (enter p s f y byNew o this xs)
-  grown-enter s f y byNew o this xs = search changes
-
-  after-call : {s : State} (s' : State) (f y : ℕ) (byNew : Bool) (x this : Value) (xs : List Value) → Grown s s' → Grown s (callOf p s' f y byNew x this xs)
-  after-call s' f y byNew primitive this xs g = g
-  after-call s' f y byNew (object i) this xs g = grown-trans g (search (changes, grown-enter))
-
-  grown-new : (s : State) (f y u l j : ℕ) (x : Value) (xs : List Value) → Grown s (newOf p s f y u l x j xs)
-  grown-new s f y u l j primitive xs = search changes
-  grown-new s f y u l j (object i) xs = search (changes, after-call) depth 8
-
-  grown-prim : (s : State) (f : ℕ) (x : Value) (n j : ℕ) → Grown s (primOf p s f x n j)
-  grown-prim s f primitive n j = search changes
-  grown-prim s f (object i) n j = search (changes, after-call)
-
-  grown-return : (s : State) (c : Option Caller) (x : Value) → Grown s (returnTo p s c x)
-  grown-return s none x = search changes
-  grown-return s (some c) primitive = search changes
-  grown-return s (some c) (object i) = search changes
-
-  grown-hand : (s : State) (c : Option Caller) (x : Value) → Grown s (handTo s c x)
-  grown-hand s none x = search changes
-  grown-hand s (some c) x = search changes
-
-  grown-grant : (to : Bool) (s : State) (f v b i : ℕ) → Grown s (grantOf p to s f v b i)
-  grown-grant true s f v b i = search changes
-  grown-grant false s f v b i = search changes
-
-  -- ---- steps and runs
-
-  ruleset parts = (changes, grown-load, grown-store, after-call, grown-new, grown-prim, grown-return, grown-hand, grown-grant)
-
-  grown-perform : (c : Choice) (s : State) (f : ℕ) (a : say.Statement) → Grown s (perform p c s f a)
-  grown-perform c s f (say.named v n) = search parts
-  grown-perform c s f (say.grant v b) = search parts
-  grown-perform c s f (say.property l n m) = search parts
-  grown-perform c s f (say.held v l) = search parts
-  grown-perform c s f (say.copy k y x) = search parts
-  grown-perform c s f (say.load k y x key u) = search parts
-  grown-perform c s f (say.store k x key a) = search parts
-  grown-perform c s f (say.make k y l) = search parts
-  grown-perform c s f (say.makeFunction k y l q) = search parts
-  grown-perform c s f (say.call k y g u vs) = search parts
-  grown-perform c s f (say.new k y g u l vs) = search parts
-  grown-perform c s f (say.return k x) = search parts
-  grown-perform c s f (say.throw k x) = search parts
-  grown-perform c s f (say.catch k y) = search parts
-  grown-perform c s f (say.prim k x) = search parts
+  grown-enter s f y byNew o this xs =
+      let g = length (s .frames) in
+      let s' = withFrame s (frameOf o f y byNew) in
+      let v = thisOf (p .sheet) (o .label) in
+      grown-trans (grown-frame s (frameOf o f y byNew)) (grown-trans (grown-write s' g v this) (grown-write-all (write p s' g v this) g (formalsOf (p .sheet) (o .label)) xs))
 
   pub step-grown : (s : State) → TakesNothingBack p s
-  step-grown s (act c) = search (parts, grown-perform)
-  step-grown s (hand f i) = search parts
+  step-grown s m = kept-step p Grown grown-kept m s
 
   pub run-grown : (moves : List Move) (s : State) → Grown s (run p moves s)
-  run-grown [] s = grown-refl s
-  run-grown (m ∷ moves) s = grown-trans (step-grown s m) (run-grown moves (step p m s))
+  run-grown = kept-run p Grown grown-kept

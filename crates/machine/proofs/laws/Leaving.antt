@@ -8,7 +8,6 @@ use native.Mathlib.Omega.{arith}
 use borrow.Author.Tests.{lt-ltb}
 use lib.ListN.{length}
 use lib.Seq.{getD-set-same}
-use Rattle.program.specs.Statement as say
 use Rattle.program.specs.Program.{Program}
 use Rattle.machine.specs.State.{Value, primitive, object, State, noFrame, frameAt, withThrown}
 use Rattle.machine.specs.Variable.{write}

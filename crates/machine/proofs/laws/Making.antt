@@ -10,7 +10,6 @@ use borrow.Author.Tests.{eq-eqb, ne-eqb}
 use lib.ListN.{length, length-append}
 use lib.Seq.{getD-append-seam}
 use lib.Dec.{eqb}
-use Rattle.program.specs.Statement as say
 use Rattle.program.specs.Program.{Program, Guest}
 use Rattle.machine.specs.State.{Value, object, Object, State, noObject, withObject, withValue, stored}
 use Rattle.machine.specs.Variable.{globalObject}

@@ -8,7 +8,6 @@ use native.Mathlib.Omega.{arith}
 use borrow.Author.Tests.{eq-eqb}
 use lib.ListN.{length, length-append, List·getD-append}
 use lib.Seq.{getD-set-same, getD-append-seam}
-use Rattle.program.specs.Statement as say
 use Rattle.program.specs.Program.{Program, namesOf}
 use Rattle.machine.specs.State.{Value, object, Object, State, noObject, objectAt, orPrimitive, withObject, setObject, withValue}
 use Rattle.machine.specs.Property.{prototypeFor, fresh}

@@ -205,9 +205,10 @@ pub returned-to-nobody : EndsWith (journal ++ (variable 3 ∷ function 6 ∷ hel
 unfolding outcome
 returned-to-nobody = refl
 
--- nor is it what a call of the global object gives
-pub label-0-returns-nothing : EndsWith (journal ++ (variable 3 ∷ variable 4 ∷ held 3 0 ∷ grant 4 ∷ call 0 4 3 0 [] ∷ return 0 2 ∷ []))
-    (does (host (call 0 4 3 0 [])) 0 ∷ does (host (return 0 2)) 0 ∷ grants 4 ∷ [])
+-- nor is it what a call of the global object gives: the call makes no frame, so that there is none in which the return would have a caller
+pub label-0-returns-nothing : EndsWith
+    (forbidden ++ (named 2 4 ∷ variable 3 ∷ variable 4 ∷ held 2 5 ∷ held 3 0 ∷ grant 4 ∷ call 0 4 3 0 [] ∷ return 0 2 ∷ []))
+    (does (host (call 0 4 3 0 [])) 0 ∷ does (host (return 0 2)) 0 ∷ does (host (return 0 2)) 2 ∷ grants 4 ∷ [])
     []
 unfolding outcome
 label-0-returns-nothing = refl
