@@ -272,7 +272,10 @@ fn put_in_and_taken_out() {
         let rest = without_top_returns(&file);
         assert!(records(&rest).all(|record| top_return(record).is_none()), "{name}");
         let full = with_top_returns(&rest, |_, _| true);
-        assert!(full.len() <= LONGEST_FILE && (full.len() > rest.len() + 3 * variables || rest.len() > 30_000), "{name}");
+        assert!(
+            full.len() <= LONGEST_FILE && (full.len() > rest.len() + 3 * variables || rest.len() > 30_000),
+            "{name}"
+        );
         assert_eq!(without_top_returns(&full), rest, "{name}");
     }
 }
