@@ -24,6 +24,16 @@ fn row(labels: &[u8]) -> Row {
     labels.iter().copied().collect()
 }
 
+/// Each file has the verdict and the number of facts, in both editions.
+fn have_verdicts(list: &[(Writer, Verdict, u32)]) {
+    for edition in Edition::BOTH {
+        for (w, verdict, facts) in list {
+            let answer = answer(edition, &w.bytes);
+            assert_eq!((answer.verdict, answer.facts), (*verdict, *facts), "{edition:?} {:?}", w.bytes);
+        }
+    }
+}
+
 fn refusal(edition: Edition, bytes: &[u8]) -> (u8, usize) {
     let Refusal { number, position } = read_in(edition, bytes).expect_err("refused");
     (number, position)
@@ -267,12 +277,7 @@ fn a_list_of_hidden_names() {
         (stored(137, 5), Verdict::Leaks(5), 219),
         (stored(136, 5), Verdict::Confined, 55),
     ];
-    for edition in Edition::BOTH {
-        for (w, verdict, facts) in &list {
-            let answer = answer(edition, &w.bytes);
-            assert_eq!((answer.verdict, answer.facts), (*verdict, *facts), "{edition:?} {:?}", w.bytes);
-        }
-    }
+    have_verdicts(&list);
 }
 
 /// The names of a class and those outside it, by masks before and after; a name without a record is in class 0 alone.
@@ -368,12 +373,7 @@ fn the_top_level_returns_to_nobody() {
         (called(false), Verdict::Confined, 54),
         (called(true), Verdict::Confined, 54),
     ];
-    for edition in Edition::BOTH {
-        for (w, verdict, facts) in &list {
-            let answer = answer(edition, &w.bytes);
-            assert_eq!((answer.verdict, answer.facts), (*verdict, *facts), "{edition:?} {:?}", w.bytes);
-        }
-    }
+    have_verdicts(&list);
 }
 
 /// Everything the host has is returned at the top level, the forbidden object too. The host calls the global object, a function and what the
