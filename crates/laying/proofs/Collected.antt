@@ -1,5 +1,5 @@
 -- The variables that functions return, collected record by record. Assumes nothing.
-use mathlib.Core.Path.{_≡_, refl, sym, ap, ap₂, _∙_}
+use mathlib.Core.Path.{_≡_, refl, sym, ap, ap₂, subst, _∙_}
 use mathlib.Core.Logic.{_⊎_, inl, inr}
 use mathlib.Core.List.{List, [], _∷_, _++_, List·Memᴰ, List·Memᴰ·head, List·Memᴰ·tail, List·Memᴰ·cases-cons, List·Memᴰ·not-nil, List·Memᴰ·append-cases, List·Memᴰ·eq-of-singleton, Memᴰ·append-left, Memᴰ·append-right, append-nil}
 use mathlib.Core.Bool.{Bool, true, false, cond}
@@ -15,6 +15,7 @@ use Rattle.layout.specs.Layout.{bodyLength}
 use Rattle.format.specs.Sheet.{typeOf}
 use Rattle.format.specs.Records.{Record}
 use Rattle.format.specs.Reading.{Reading, readFile, Readable, positioned}
+use Rattle.format.proofs.Placed.{place-of}
 use Rattle.format.proofs.Later.{declared-below}
 use Rattle.format.proofs.Ready.{Among, Made}
 use Rattle.format.proofs.Readable.{readable-ready}
@@ -162,13 +163,9 @@ module _ {L : ℕ} {file : List ℕ} {at : ℕ} (w : Walk L file at) (h : at < l
 -- ---- the whole file
 
 positioned-in : (at : ℕ) (rs : List Record) (a : ℕ) (r : Record) → List·Memᴰ (a, r) (positioned at rs) → List·Memᴰ r rs
-unfolding positioned
-positioned-in at [] a r i = absurd (List·Memᴰ·not-nil i)
-positioned-in at (q ∷ rs) a r i =
-    elim (List·Memᴰ·cases-cons i) [
-      | inl e ↦ List·Memᴰ·head (ap (λ (p : ℕ × Record). p .1) e)
-      | inr j ↦ List·Memᴰ·tail (positioned-in (at + 1 + length (q .body)) rs a r j)
-    ]
+positioned-in at rs a r i =
+    let p = place-of rs at a r i in
+    subst (λ (qs : List Record). List·Memᴰ r qs) (sym (p .all)) (Memᴰ·append-right (p .before) (List·Memᴰ·head refl))
 
 in-positioned : (at : ℕ) (rs : List Record) (r : Record) → List·Memᴰ r rs → (a : ℕ) × List·Memᴰ (a, r) (positioned at rs)
 unfolding positioned

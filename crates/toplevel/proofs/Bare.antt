@@ -5,11 +5,11 @@ use mathlib.Core.List.{List, [], _∷_, _++_, map, append-assoc, map-append}
 use Prim.Native.Nat.{ℕ}
 use Rattle.format.specs.Records.{Record}
 use Rattle.format.specs.Reading.{Reading}
+use Rattle.format.proofs.Placed.{later}
 use Rattle.program.specs.Statement as say
 use Rattle.program.specs.Statement.{statementsOf}
 use Rattle.program.specs.Program.{Program, placed, guestsStatements, hostStatements, guestsOf, programOf, statements}
 use Rattle.toplevel.specs.Silent.{topReturn}
-use Rattle.format.proofs.Placed.{later}
 use Rattle.toplevel.proofs.Read.{Read}
 
 abbrev pub bare : List (ℕ × say.Statement) → List say.Statement

@@ -64,9 +64,9 @@ perform-choosing q j c s f (say.catch k y) = refl
 perform-choosing q j c s f (say.prim k x) = refl
 
 -- places of two lists at which the same stands
-pub record Counterpart (ss ts : List say.Statement) (i j : ℕ) : Type 0 where
-  pub stands : getD ss i beyond ≡ getD ts j beyond
-  pub there : ltb i (length ss) ≡ ltb j (length ts)
+record Counterpart (ss ts : List say.Statement) (i j : ℕ) : Type 0 where
+  stands : getD ss i beyond ≡ getD ts j beyond
+  there : ltb i (length ss) ≡ ltb j (length ts)
 
 step-counterpart : (q : Program) (ss ts : List say.Statement) (i j : ℕ) → Counterpart ss ts i j → (c : Choice) (s : State)
     → stepBy q ss i c s ≡ stepBy q ts j (choosing j c) s
@@ -109,7 +109,7 @@ module _ (xs ys : List say.Statement) (r : say.Statement) where
       go (yes e) = (i, before i e)
       go (no e) =
           let z : n + (i - n) ≡ i = omega arith in
-          (n + suc (i - n), rw (z) at (behind (i - n)))
+          (n + suc (i - n), rw z at (behind (i - n)))
 
   -- and all of the longer but r in the shorter
   shorter : (j : ℕ) → (j ≡ n → ⊥) → (i : ℕ) × Counterpart (xs ++ ys) (xs ++ (r ∷ ys)) i j
@@ -130,7 +130,7 @@ statement-bare q i = sym (List·getD-map (λ (x : ℕ × say.Statement). x .1) (
 step-bare : (q : Program) (c : Choice) (s : State) → step q (act c) s ≡ stepBy q (bare (statements q)) (c .statement) c s
 step-bare q c s = rw (statement-bare q (c .statement), ← length-map (statements q) (λ (x : ℕ × say.Statement). x .1))
 
--- the same from this state
+-- a move of q that does from this state what m does of p
 abbrev Answered : Program → Program → Move → State → Type 0
 Answered p q m s = (m' : Move) × (step p m s ≡ step q m' s)
 

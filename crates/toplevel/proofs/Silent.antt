@@ -136,7 +136,7 @@ unfolding programOf
 silent L five =
     record {
       unchanged = unchanged-holds L five;
-      put-in = λ xs ok at v m. taken-out L xs ok at v m;
+      put-in = taken-out L;
       idle = λ xs ok s r c v e.
           subst (λ (u : State). step (programIn L xs) (act c) u ≡ u) (sym (r .1))
           (returns-to-nobody (programIn L xs) (top-plain L five xs ok) (r .0) c v e);
