@@ -16,6 +16,7 @@ use Rattle.rows.proofs.Run.{view-length, laid-rows}
 use Rattle.rules.specs.Table.{Table, facts}
 use Rattle.rules.specs.Gap.{gap}
 use Rattle.analysis.specs.Rules.{rules}
+use Rattle.format.specs.Sheet.{Sheet}
 use Rattle.format.specs.Reading.{readFile, Readable}
 use Rattle.program.specs.Program.{programOf}
 use Rattle.analysis.specs.Verdict.{leastTable, heldForbidden}
@@ -28,9 +29,25 @@ use Rattle.verdicts.proofs.Words.{short-left, unread-left, words-same}
 use Rattle.lent.specs.Table.{wordCount, tableAt}
 use Rattle.whole.proofs.Rows.{same-room, rows-left, rest-left, some-words, short-rows, full-rows, bag-row}
 use Rattle.cleaning.proofs.Copies.{cleaned-rows}
+use Rattle.records.proofs.Walks.{five-labels}
+use Rattle.sheet.specs.View.{sheetOf}
+use Rattle.sheet.specs.declared.Sheet as declared
 use Rattle.passes.specs.Order.{guestThree}
+use Rattle.passes.specs.Arrays.{Arrays}
 use Rattle.solver.specs.Solved.{Solved}
 use Rattle.operations.specs.Judgment.{judgment}
+
+-- ---- the arrays of the sheet that was read
+
+pub arrays-read : (wide : Bool) (file : List ℕ) (s : declared.Sheet) → sheetOf wide s ≡ readFile (labels wide) file .sheet
+    → Arrays wide file (s .types) (s .flags) (s .masks) (s .formals)
+arrays-read wide file s e =
+    record {
+      types-are = ap (λ (s : Sheet). s .types) (sym e);
+      flags-are = ap (λ (s : Sheet). s .flags) (sym e);
+      masks-are = ap (λ (s : Sheet). s .masks) (sym e);
+      formals-are = ap (λ (s : Sheet). s .formals) (sym e);
+    }
 
 -- ---- a set that is held
 
@@ -47,10 +64,6 @@ unfolding heldForbidden
 held-in wide u e same = e ∙ ap (bitAnd (getD (tableAt wide 0 u) 1 0)) same
 
 -- ---- the editions
-
-five-labels : (wide : Bool) → 5 ≤ labels wide
-five-labels true = omega arith
-five-labels false = omega arith
 
 enough-words : (wide : Bool) → labels wide ≤ 64 * words wide
 enough-words true = omega arith

@@ -53,9 +53,16 @@ pub fn judge(file: &[u8], wide: bool, table: &mut [u64]) -> Answer
     if no != 0 {
         return Answer::Refused(no, at);
     }
-    let sheet = r.sheet;
-    solver::solve(file, sheet, wide, table);
-    let held = whole::held(table, wide, sheet.forbidden);
+    solver::solve(
+        table,
+        file,
+        wide,
+        &r.sheet.types,
+        &r.sheet.flags,
+        &r.sheet.masks,
+        &r.sheet.formals,
+    );
+    let held = whole::held(table, wide, r.sheet.forbidden);
     judged(wide, held, whole::count(table, wide))
 }
 
@@ -73,12 +80,20 @@ pub fn examine(file: &[u8], wide: bool, table: &[u64], room: &mut [u64]) -> Answ
     if no != 0 {
         return Answer::Refused(no, at);
     }
-    let sheet = r.sheet;
-    let gap = checker::lowest_gap(file, sheet, table, wide, room);
+    let gap = checker::lowest_gap(
+        room,
+        table,
+        file,
+        wide,
+        &r.sheet.types,
+        &r.sheet.flags,
+        &r.sheet.masks,
+        &r.sheet.formals,
+    );
     if gap < rows::row_count(wide) {
         return Answer::Refused(10, gap);
     }
-    let held = whole::held(table, wide, sheet.forbidden);
+    let held = whole::held(table, wide, r.sheet.forbidden);
     if sets::is_empty(wide, held) {
         return Answer::Accepted(0);
     }

@@ -1,76 +1,102 @@
--- The loop of passes, with a search after each. Assumes nothing.
-use mathlib.Core.Path.{_≡_, refl, sym}
+-- The first pass, and the loop of a search and a pass after it. Assumes nothing.
+use mathlib.Core.Path.{_≡_, refl, sym, ap, subst, _∙_}
 use mathlib.Core.Logic.{inl}
 use mathlib.Core.Bool.{Bool, true, false}
 use mathlib.Core.List.{List}
 use Prim.Native.Nat.{ℕ, _<_}
 use native.Mathlib.Omega.{arith}
-use lib.ListN.{length}
+use lib.ListN.{replicate}
 use Rattle.rows.specs.Edition.{labels}
+use Rattle.rules.specs.Table.{Small, emptyTable}
 use Rattle.rules.specs.Told.{Fits}
-use Rattle.program.specs.Program.{Program}
+use Rattle.rules.specs.Round.{leastAbove}
+use Rattle.rules.proofs.Table.{empty-shaped}
 use Rattle.analysis.specs.Rules.{rules}
-use Rattle.uses.specs.Use.{Since, tells, Reached, Used}
-use Rattle.uses.proofs.Use.{reached-on, reached-read, reached-length}
+use Rattle.uses.specs.Use.{Since, tableOf, tells, start, Used}
+use Rattle.uses.proofs.Use.{reached-on, reached-read}
 use Rattle.kept.specs.Promise.{Remembers}
-use Rattle.kept.proofs.Remembers.{remembers-since}
+use Rattle.kept.proofs.Remembers.{remembers-none}
 use Rattle.whole.proofs.Finished.{reached-small, reached-facts}
-use Rattle.whole.proofs.Solving.{Solving, solving-next, left, solving-less}
+use Rattle.whole.proofs.Solving.{Solving, solving-start, solving-next, solving-end, left, solving-less}
 use Rattle.passes.specs.Order.{PassOf}
 use Rattle.solver.specs.Steps.{programIn, Steps, StepsFor}
-use Rattle.solver.proofs.Turning.{never}
+use Rattle.solver.specs.Iterated.{Settled}
+use Rattle.solver.proofs.Turning.{never, zero-at}
 
--- the search went on from there; it did nothing where no pass is to follow
-solving-search : {wide : Bool} {t u v : List ℕ} (file : List ℕ) → Fits (labels wide) (rules (labels wide) (programIn wide file)) → (again : Bool)
-    → Solving wide (rules (labels wide) (programIn wide file)) t u again → (again ≡ false → v ≡ u)
-    → Reached wide 0 (tells wide (rules (labels wide) (programIn wide file))) u v → Solving wide (rules (labels wide) (programIn wide file)) t v again
-solving-search {wide} file f true s same w =
-    record {
-      small = reached-small (rules (labels wide) (programIn wide file)) f (s .small) w;
-      reached = reached-on (s .reached) w;
-      closed = λ e. never (sym e);
-    }
-solving-search file f false s same w = rw (same refl) s
+-- a pass before which nothing was kept
+pub pass-used : {wide : Bool} {o : ℕ} (file : List ℕ) {t u kept : List ℕ} {grew : Bool} → PassOf wide o file t (replicate 256 0) u kept grew
+    → Used wide o (tells wide (rules (labels wide) (programIn wide file))) t t u grew
+pass-used file {t} pass = pass .uses t (λ r l h. h) (remembers-none (zero-at 256))
 
-left-search : {wide : Bool} {u v : List ℕ} (file : List ℕ) (again : Bool) {n : ℕ} → Reached wide 0 (tells wide (rules (labels wide) (programIn wide file))) u v
-    → left wide again u < n → left wide again v < n
-left-search {wide} {u} {v} file true w h = omega (arith, reached-facts w)
-left-search file false w h = h
+-- from the words `from` searches and passes came to t, and the pairs are good
+pub record Turned (wide : Bool) (file from t keeps : List ℕ) (again : Bool) : Type 0 where
+  pub solving : Solving wide (rules (labels wide) (programIn wide file)) from t again
+  pub old : List ℕ
+  pub since : Since wide old t
+  pub remembers : Remembers wide 0 (programIn wide file) old t keeps
 
--- a pass and the search after it
-pub record Turned (wide : Bool) (file start t keeps : List ℕ) (again : Bool) : Type 0 where
-  pub solving : Solving wide (rules (labels wide) (programIn wide file)) start t again
-  pub remembers : Remembers wide 0 (programIn wide file) start t keeps
+module _ {wide : Bool} (file : List ℕ) (fits : Fits (labels wide) (rules (labels wide) (programIn wide file))) where
+  -- the first pass, in place and from a table without facts
+  module _ {o : ℕ} {t u kept : List ℕ} (grew : Bool) (here : o ≡ 0) (empty : tableOf wide t ≡ emptyTable (labels wide))
+      (pass : PassOf wide o file t (replicate 256 0) u kept grew) where
+    in-place : PassOf wide 0 file t (replicate 256 0) u kept grew
+    in-place = subst (λ (at : ℕ). PassOf wide at file t (replicate 256 0) u kept grew) here pass
 
-pub passed-length : {wide : Bool} {file start t u keeps forgot kept : List ℕ} {again grew : Bool}
-    → ((o : ℕ) (p : Program) (old t : List ℕ) → Remembers wide o p old t keeps → Remembers wide o p t t forgot)
-    → PassOf wide 0 file t forgot u kept grew → Turned wide file start t keeps again → length u ≡ length t
-passed-length {wide} {file} {start} {t} forgets pass before =
-    reached-length (pass .uses t (λ r l h. h) (forgets 0 (programIn wide file) start t (before .remembers)) .only)
+    small : Small (labels wide) (tableOf wide t)
+    small = subst (Small (labels wide)) (sym empty) (empty-shaped (labels wide) .small)
 
-module _ {wide : Bool} {file start t u v keeps forgot kept last : List ℕ} (again grew go : Bool)
-    (fits : Fits (labels wide) (rules (labels wide) (programIn wide file)))
-    (forgets : (o : ℕ) (p : Program) (old t : List ℕ) → Remembers wide o p old t keeps → Remembers wide o p t t forgot)
-    (pass : PassOf wide 0 file t forgot u kept grew) (search : StepsFor wide file u kept v last) (same : go ≡ false → v ≡ u) (worth : grew ≡ false → go ≡ false)
-    (before : Turned wide file start t keeps again) where
-  fresh : Remembers wide 0 (programIn wide file) t t forgot
-  fresh = forgets 0 (programIn wide file) start t (before .remembers)
+    first : Solving wide (rules (labels wide) (programIn wide file)) t u grew
+    first = solving-next fits grew (solving-start (rules (labels wide) (programIn wide file)) small) (pass-used file in-place)
 
-  used : Used wide 0 (tells wide (rules (labels wide) (programIn wide file))) t t u grew
-  used = pass .uses t (λ r l h. h) fresh
+    pub turned-first : Turned wide file u u kept grew
+    turned-first =
+        record {
+          solving = record { small = first .small; reached = start; closed = first .closed };
+          old = t;
+          since = reached-read (inl refl) (first .reached);
+          remembers = in-place .memory t (λ r l h. h) (remembers-none (zero-at 256));
+        }
 
-  since : Since wide t u
-  since = reached-read (inl refl) (used .only)
+    -- and all that follow it, until one adds nothing
+    pub turned-settled : {v keeps : List ℕ} {again : Bool} → again ≡ false → Turned wide file u v keeps again → Settled wide file t v
+    turned-settled e last =
+        let reached = reached-on (first .reached) (last .solving .reached) in
+        record {
+          reached = reached;
+          least = solving-end fits small e (record { small = last .solving .small; reached = reached; closed = last .solving .closed })
+              ∙ ap (leastAbove (labels wide) (rules (labels wide) (programIn wide file))) empty;
+        }
 
-  steps : Steps wide file t u v last
-  steps = search t since (pass .memory t (λ r l h. h) fresh)
+  -- a search and then a pass, the pairs being forgotten between them
+  module _ {from t u v keeps found forgot kept : List ℕ} {again : Bool} (grew : Bool) (before : Turned wide file from t keeps again)
+      (search : StepsFor wide file t keeps u found) (forgets : (old : List ℕ) → Remembers wide 0 (programIn wide file) old u found → Remembers wide 0 (programIn wide file) u u forgot)
+      (pass : PassOf wide 0 file u forgot v kept grew) where
+    steps : Steps wide file (before .old) t u found
+    steps = search (before .old) (before .since) (before .remembers)
 
-  pub turned : Turned wide file start v last grew
-  turned =
-      record {
-        solving = solving-search file fits grew (solving-next fits grew (before .solving) used) (λ e. same (worth e)) (steps .reached);
-        remembers = remembers-since (reached-read (inl refl) (before .solving .reached)) (steps .memory);
-      }
+    searched : Solving wide (rules (labels wide) (programIn wide file)) from u true
+    searched =
+        record {
+          small = reached-small (rules (labels wide) (programIn wide file)) fits (before .solving .small) (steps .reached);
+          reached = reached-on (before .solving .reached) (steps .reached);
+          closed = λ e. never (sym e);
+        }
 
-  pub turned-less : again ≡ true → left wide grew v < left wide again t
-  turned-less e = left-search file grew (steps .reached) (solving-less fits grew e (before .solving) used)
+    fresh : Remembers wide 0 (programIn wide file) u u forgot
+    fresh = forgets (before .old) (steps .memory)
+
+    used : Used wide 0 (tells wide (rules (labels wide) (programIn wide file))) u u v grew
+    used = pass .uses u (λ r l h. h) fresh
+
+    pub turned : Turned wide file from v kept grew
+    turned =
+        record {
+          solving = solving-next fits grew searched used;
+          old = u;
+          since = reached-read (inl refl) (used .only);
+          remembers = pass .memory u (λ r l h. h) fresh;
+        }
+
+    pub turned-less : again ≡ true → left wide grew v < left wide again t
+    turned-less e =
+        let less : left wide grew v < left wide true u = solving-less fits grew refl searched used in rw e (omega (arith, less, reached-facts (steps .reached)))

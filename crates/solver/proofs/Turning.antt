@@ -80,8 +80,3 @@ pub zero-at : (n i : ℕ) → _≡_ {A = ℕ} (getD (replicate n 0) i 0) 0
 zero-at zero i = refl
 zero-at (suc n) zero = refl
 zero-at (suc n) (suc i) = zero-at n i
-
--- it did not stop
-pub went : {A : Type 0} (go : Bool) → not go ≡ false → go ≡ false → A
-went true e f = never (sym f)
-went false e f = never (sym e)

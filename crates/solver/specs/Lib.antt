@@ -1,4 +1,4 @@
 -- What the search between whole passes may do.
 pub mod Steps
 pub mod Solved
-pub mod Settled
+pub mod Iterated

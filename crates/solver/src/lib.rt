@@ -1,32 +1,30 @@
-// The least table of a readable file, computed in place on the words that are lent: whole passes until one adds nothing, and between them a search where a file
-// needs many.
-ghost use mathlib.Core.Path.{_≡_};
+// Whole passes over the rules of a readable file, on the words that are lent: in place until one adds nothing, with a search between them where a file needs
+// many, which leaves the least table; or one, into a second table.
 ghost use Prim.Native.Nat.{_≤_};
 ghost use lib.ListN.{length};
 ghost use Rattle.rows.specs.Edition.{labels};
-ghost use Rattle.format.specs.Reading.{readFile, Readable};
-ghost use Rattle.sheet.specs.View.{sheetOf};
+ghost use Rattle.format.specs.Reading.{Readable};
+ghost use Rattle.passes.specs.Arrays.{Arrays};
 ghost use Rattle.lent.specs.Table.{wordCount};
 ghost use Rattle.solver.specs.Solved.{Solved};
-use crate::settle::settle;
-use sheet::Sheet;
+use crate::iterate::iterate;
 
-mod settle;
+pub mod iterate;
 mod turns;
 
-// The least table of the file, whose declarations are in the sheet; what stood in the rows counts for nothing, words beyond them stay.
-pub fn solve(file: &[u8], sheet: Sheet, wide: bool, t: &mut [u64])
-    requires { ⌜ (wordCount wide ≤ length (now t)) × Readable (labels wide) (now file) × (sheetOf wide sheet ≡ readFile (labels wide) (now file) .sheet) ⌝ }
+// The least table of the file, whose declarations are in the arrays; what stood in the rows counts for nothing, words beyond them stay.
+pub fn solve<'a>(
+    t: &mut [u64],
+    file: &[u8],
+    wide: bool,
+    types: &'a [u8; 256],
+    flags: &'a [u8; 256],
+    masks: &'a [u8; 32],
+    formals: &'a [u8; 1792],
+)
+    requires { ⌜ (wordCount wide ≤ length (now t)) × Readable (labels wide) (now file) × Arrays wide (now file) (now types) (now flags) (now masks) (now formals) ⌝ }
     ensures { λ _. ⌜ Solved wide (now (file .entry)) (now (t .entry)) (now (t .exit)) ⌝ }
 {
     whole::clear(t, wide);
-    settle(
-        t,
-        file,
-        wide,
-        &sheet.types,
-        &sheet.flags,
-        &sheet.masks,
-        &sheet.formals,
-    );
+    iterate(t, 0, file, wide, types, flags, masks, formals);
 }

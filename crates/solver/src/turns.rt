@@ -1,6 +1,6 @@
 // Between whole passes: the search names a record, its rules are used, and what grew leads on.
 ghost use mathlib.Core.Path.{_≡_};
-ghost use mathlib.Core.Bool.{true, false};
+ghost use mathlib.Core.Bool.{true};
 ghost use mathlib.Core.List.{List};
 ghost use Prim.Native.Nat.{ℕ, _<_};
 ghost use lib.ListN.{length};
@@ -103,7 +103,6 @@ pub fn search_on(
 )
     requires { ⌜ Lent wide 0 (length (now t)) × Readable (labels wide) (now file) ⌝ }
     ensures { λ _. ⌜ (Known wide (programIn wide (now (file .entry))) (now (host .entry)) (now (types .entry)) (now (formals .entry)) (arrays (now (first .entry)) (now (second .entry)) (now (third .entry)) (now (fourth .entry))) → StepsFor wide (now (file .entry)) (now (t .entry)) (now (keeps .entry)) (now (t .exit)) (now (keeps .exit))) ⌝ }
-    ensures { λ _. ⌜ (go ≡ false → now (t .exit) ≡ now (t .entry)) ⌝ }
 {
     if !go {
         return;

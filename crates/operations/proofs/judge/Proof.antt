@@ -9,7 +9,7 @@ use Rattle.format.specs.Reading.{readFile}
 use Rattle.answer.specs.Outcome.{refused}
 use Rattle.lent.specs.Table.{wordCount}
 use Rattle.operations.specs.Judgment.{judgment}
-use Rattle.operations.proofs.Laws.{held-in, short-outcome, short-words, refused-outcome, refused-words, judged-outcome, left-words}
+use Rattle.operations.proofs.Laws.{arrays-read, held-in, short-outcome, short-words, refused-outcome, refused-words, judged-outcome, left-words}
 use borrow.Author.Needs.{needs}
 use Rattle.operations.proofs.judge.Statement.{statement}
 use Rattle.operations.proofs.judge.Tie as tie
@@ -35,13 +35,20 @@ returns-2 c =
       sym (refused-words (a .wide) (a .file .now) (a .table .now) full (λ i. known .slice-known .given i .fits) z),
     )
 
+solve-requires : tie.Need-solve-requires
+solve-requires c κs =
+    let e = c .before .before .before .before .before .before in
+    let r = e .before .read .ensures in
+    let test = e .before .before in
+    (omega (arith, test .if1 .left, test .before .word-count .ensures .0), sym (r .1 .0) ∙ e .if2 .left, arrays-read _ _ (e .before .read .result .sheet) (r .0))
+
 returns-3 : tie.Need-returns-3
 returns-3 c =
     let n = c .before in
     let h = n .before .before in
-    let known = h .before .before in
+    let known = h .before .before .before in
     let s = known .before .before in
-    let e = s .before .before .before in
+    let e = s .before .before .before .before .before .before .before in
     let test = e .before .before in
     let a = test .before .before .before .before .args in
     let xs = a .file .now in
@@ -58,5 +65,5 @@ returns-3 c =
 
 pub judge-spec : {M : Type 1} → statement M
 judge-spec =
-    tie.close (tie.spec (λ c κs. search needs) returns (λ c κs. search needs) returns-2 (λ c κs. search needs)
+    tie.close (tie.spec (λ c κs. search needs) returns (λ c κs. search needs) returns-2 solve-requires
     (λ c κs. search needs) (λ c κs. search needs) (λ c κs. search needs) (λ c. search needs) returns-3)

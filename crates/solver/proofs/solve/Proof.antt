@@ -1,47 +1,24 @@
+-- `solver::solve` meets its contract. Assumes nothing.
 use borrow.Author.Needs.{needs}
-use mathlib.Core.Path.{sym, ap, _∙_}
+use mathlib.Core.Path.{refl, _∙_}
+use mathlib.Core.Logic.{inl}
 use native.Mathlib.Omega.{arith}
 use Rattle.analysis.specs.Verdict.{leastTable}
-use Rattle.format.specs.Sheet.{Sheet}
 use Rattle.uses.proofs.Use.{reached-length, reached-behind}
 use Rattle.solver.proofs.solve.Statement.{statement}
 use Rattle.solver.proofs.solve.Tie as tie
-use Rattle.solver.proofs.solve.Reads as reads
-use Rattle.solver.proofs.solve.Lts as lts
-use Rattle.solver.proofs.settle.settle.Reads as settle-reads
-use Rattle.whole.proofs.clear.Reads as clear-reads
 
--- src/lib.rt:22:5
-clear-requires : tie.Need-clear-requires
-clear-requires c κs = search needs
+iterate-requires : tie.Need-iterate-requires
+iterate-requires c κs =
+    let start = c .before .before .before .before .before .before .before in
+    let cleared = c .before .before .before .clear .ensures in
+    (record { room = rw (cleared .same-length) (omega (arith, start .pre .0)); apart = inl refl }, start .pre .1, start .pre .2, λ e. cleared .none)
 
--- src/lib.rt:23:5
-settle-requires : tie.Need-settle-requires
-settle-requires c κs =
-    let start = c .before .before .before .before .before .before .before .before .before .before .before .before in
-    let cleared = c .before .before .before .before .before .before .before .before .clear .ensures in
-    let same = start .pre .2 in (
-      rw (cleared .same-length) (start .pre .0),
-      start .pre .1,
-      record {
-        types-are = ap (λ (s : Sheet). s .types) (sym same);
-        flags-are = ap (λ (s : Sheet). s .flags) (sym same);
-        masks-are = ap (λ (s : Sheet). s .masks) (sym same);
-        formals-are = ap (λ (s : Sheet). s .formals) (sym same);
-      },
-      cleared .none,
-    )
-
--- src/lib.rt:18:1
-same-length : tie.Need-same-length
-same-length c = search needs
-
--- src/lib.rt:18:1
 returns : tie.Need-returns
 unfolding leastTable
 returns c =
-    let cleared = c .before .before .before .before .before .before .before .before .before .before .before .clear .ensures in
-    let settled = c .before .before .settle .ensures in
+    let cleared = c .before .before .before .before .before .before .clear .ensures in
+    let settled = c .before .before .iterate .ensures .settled refl in
     record {
       same-length = reached-length (settled .reached) ∙ cleared .same-length;
       least = settled .least;
@@ -49,4 +26,4 @@ returns c =
     }
 
 pub solve-spec : {M : Type 1} → statement M
-solve-spec = tie.close (tie.spec clear-requires settle-requires same-length returns)
+solve-spec = tie.close (tie.spec (λ c κs. search needs) iterate-requires (λ c. search needs) returns)

@@ -12,7 +12,7 @@ use Rattle.uses.proofs.Rows.{read-room}
 use Rattle.host.specs.Lays.{arrays}
 use Rattle.passes.specs.Order.{Known}
 use Rattle.solver.specs.Steps.{programIn, StepsFor}
-use Rattle.solver.proofs.Turning.{steps-none, steps-on, steps-forget, zero-at, went}
+use Rattle.solver.proofs.Turning.{steps-none, steps-on, steps-forget, zero-at}
 use Rattle.solver.proofs.turns.search_on.Statement.{statement}
 use Rattle.solver.proofs.turns.search_on.Tie as tie
 
@@ -71,13 +71,11 @@ loop-again c =
     )
 
 returns-2 : tie.Need-returns-2 Inv-loop μ-loop
-returns-2 c =
-    let loop = c .before in
-    (loop .loop .inv .2, λ e. went _ (loop .before .before .before .before .before .before .if1 .left) e)
+returns-2 c = c .before .loop .inv .2
 
 pub search-on-spec : {M : Type 1} → statement M
 search-on-spec =
-    tie.close (tie.spec Inv-loop μ-loop (λ c. (λ known. steps-none, λ e. refl)) index-file-requires
+    tie.close (tie.spec Inv-loop μ-loop (λ c known. steps-none) index-file-requires
     (λ c. (refl, λ e. omega arith, λ known. steps-none)) next-requires use-at-requires (λ c κs. search needs)
     (λ c κs. search needs) (λ c κs. search (needs, room-after)) (λ c κs. search (needs, room-after))
     (λ c κs. search (needs, room-after)) add-turns (λ c κs. search needs) loop-less loop-again (λ c. c .before .loop .inv .0)
