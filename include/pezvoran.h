@@ -21,12 +21,8 @@ extern "C" {
    be NULL where its length is 0; else it points to that many bytes or words, a table's pointer is aligned as a uint64_t is, and file and table do not
    overlap. The answer is one word, to be read with the functions below.
 
-   A call keeps nothing from one call to the next and takes no memory but the stack, so threads may call at the same time, each with a table of its
-   own. The stack that a call takes is the same for every file; as measured (bench/RESULTS.md), in bytes:
-                verdict     check
-       small     53,256    74,984
-       large     53,336   609,480
-   The check has two tables of its own on the stack. A thread with less dies; PEZVORAN_STACK_BYTES and PEZVORAN_LARGE_STACK_BYTES are what the tests give one. */
+   A call keeps nothing from one call to the next and takes no memory but the stack, so threads may call at the same time, each with a table of its own; what
+   it takes of the stack is below, under sizes. */
 
 /* The verdict: confined, leaks or refused. Unless it refuses, the first PEZVORAN_TABLE_WORDS words of the table, or PEZVORAN_LARGE_TABLE_WORDS, become
    the finished table, whatever stood there; words beyond stay as they are. A refusal leaves every word as it is. */
@@ -49,12 +45,24 @@ enum {
     PEZVORAN_ROW_WORDS = 1, /* 64-bit words of a row */
     PEZVORAN_ROWS = 2432,
     PEZVORAN_TABLE_WORDS = 2432, /* a full table */
-    PEZVORAN_STACK_BYTES = 98304, /* enough stack for a thread that calls either operation */
 
     PEZVORAN_LARGE_LABELS = 256,
     PEZVORAN_LARGE_ROW_WORDS = 4,
     PEZVORAN_LARGE_ROWS = 8960,
-    PEZVORAN_LARGE_TABLE_WORDS = 35840,
+    PEZVORAN_LARGE_TABLE_WORDS = 35840
+};
+
+/* The stack, in bytes. A call takes no more than this of it, on any file (a test measures it); the check has two tables of its own there. What verdicts that run
+   side by side take of memory is a table and this for each of them: eight take 8 * (8 * PEZVORAN_TABLE_WORDS + PEZVORAN_VERDICT_STACK_BYTES), 409,600 bytes, and
+   2,564,096 in the large edition. A thread takes some of its stack for itself. One with too little dies. */
+enum {
+    PEZVORAN_VERDICT_STACK_BYTES = 31744,
+    PEZVORAN_CHECK_STACK_BYTES = 70656,
+    PEZVORAN_LARGE_VERDICT_STACK_BYTES = 33792,
+    PEZVORAN_LARGE_CHECK_STACK_BYTES = 607232,
+
+    PEZVORAN_THREAD_STACK_BYTES = 16384, /* beside the call: so much more is enough for a thread that only calls */
+    PEZVORAN_STACK_BYTES = 98304,        /* enough for a thread that calls either operation */
     PEZVORAN_LARGE_STACK_BYTES = 786432
 };
 

@@ -10,6 +10,12 @@ pub trait Edition: Operations {
     /// Labels are 0 up to but not including this number.
     const LABELS: usize;
 
+    /// A verdict takes no more bytes of the stack, on any file.
+    const VERDICT_STACK_BYTES: usize;
+
+    /// A check takes no more bytes of the stack, on any file and table; it has two tables of its own there.
+    const CHECK_STACK_BYTES: usize;
+
     /// Enough stack for a thread that calls either operation.
     const STACK_BYTES: usize;
 
@@ -39,11 +45,15 @@ pub enum Large {}
 
 impl Edition for Small {
     const LABELS: usize = 64;
+    const VERDICT_STACK_BYTES: usize = 31_744;
+    const CHECK_STACK_BYTES: usize = 70_656;
     const STACK_BYTES: usize = 98_304;
 }
 
 impl Edition for Large {
     const LABELS: usize = 256;
+    const VERDICT_STACK_BYTES: usize = 33_792;
+    const CHECK_STACK_BYTES: usize = 607_232;
     const STACK_BYTES: usize = 786_432;
 }
 

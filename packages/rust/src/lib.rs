@@ -39,8 +39,22 @@
 //! ```
 //!
 //! Both operations take any bytes and any table, empty ones too. They keep nothing from one call to the next and take no memory but the stack, so threads
-//! may call them at the same time, each with a table of its own. The stack that a call takes is the same for every file, as measured: 53,256 bytes for a
-//! verdict and 74,984 for a check, in the large edition 53,336 and 609,480. A thread with less dies; one with [`Edition::STACK_BYTES`] does not.
+//! may call them at the same time, each with a table of its own. What a call takes of the stack is in [`Edition::VERDICT_STACK_BYTES`] and
+//! [`Edition::CHECK_STACK_BYTES`]; a thread takes some for itself, and [`THREAD_STACK_BYTES`] more are enough for one that only calls:
+//!
+//! ```
+//! use pezvoran::{verdict, Answer, Edition, Small, Table, THREAD_STACK_BYTES};
+//! use std::thread::Builder;
+//!
+//! // Eight verdicts side by side, each with a table and a small stack of its own.
+//! let small = || Builder::new().stack_size(Small::VERDICT_STACK_BYTES + THREAD_STACK_BYTES);
+//! let file = [2, 5, 1, 0, 3, 5, 5, 2, 0, 255, 8, 2, 5, 6, 2];
+//! let threads = [(); 8].map(|()| small().spawn(move || verdict(&file, &mut Table::<Small>::new())).expect("a thread"));
+//! for thread in threads {
+//!     assert_eq!(thread.join().expect("it ends"), Answer::Leaks { label: 5, guest: 3, facts: 148 });
+//! }
+//! ```
+//!
 //! (What C has to see to, alignment and that file and table do not overlap, is in the types here.) The archives that `rt staticlib pezvoran` and
 //! `rt staticlib pezvoran_large` write are linked in.
 
@@ -55,6 +69,9 @@ pub use table::{Labels, Lent, Table};
 
 /// The bytes of the longest statement file.
 pub const FILE_BYTES: usize = 32_768;
+
+/// What a thread may take of its stack beside a call: one with this much more than the call takes is enough, if it does nothing but call.
+pub const THREAD_STACK_BYTES: usize = 16_384;
 
 /// Names are 0 to 31.
 pub const NAMES: usize = 32;

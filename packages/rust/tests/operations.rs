@@ -1,6 +1,6 @@
 //! The safe interface, in each edition: both operations on small files, kept tables, and the texts and sizes of the C header.
 
-use pezvoran::{check, verdict, Answer, Edition, Large, Lent, Refusal, Small, Table, FILE_BYTES, NAMES};
+use pezvoran::{check, verdict, Answer, Edition, Large, Lent, Refusal, Small, Table, FILE_BYTES, NAMES, THREAD_STACK_BYTES};
 use std::thread;
 
 /// Makes a test of each function for each edition.
@@ -229,9 +229,11 @@ fn the_sizes_are_those_of_the_c_header_and_of_the_text_of_8() {
     let has = |name: String, size: usize| assert!(header.contains(&format!("PEZVORAN_{name} = {size}")), "{name}");
     has("FILE_BYTES".into(), FILE_BYTES);
     has("NAMES".into(), NAMES);
+    has("THREAD_STACK_BYTES".into(), THREAD_STACK_BYTES);
     fn sizes<E: Edition>(prefix: &str, has: impl Fn(String, usize)) {
         let sizes = [("LABELS", E::LABELS), ("ROW_WORDS", E::ROW_WORDS), ("ROWS", E::ROWS), ("TABLE_WORDS", E::TABLE_WORDS)];
-        sizes.into_iter().chain([("STACK_BYTES", E::STACK_BYTES)]).for_each(|(name, size)| has(format!("{prefix}{name}"), size));
+        let stacks = [("VERDICT_STACK_BYTES", E::VERDICT_STACK_BYTES), ("CHECK_STACK_BYTES", E::CHECK_STACK_BYTES), ("STACK_BYTES", E::STACK_BYTES)];
+        sizes.into_iter().chain(stacks).for_each(|(name, size)| has(format!("{prefix}{name}"), size));
         assert!(refusal(8, 0).text().contains(&E::TABLE_WORDS.to_string()));
     }
     sizes::<Small>("", has);
