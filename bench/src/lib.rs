@@ -10,6 +10,7 @@ pub mod mutate;
 pub mod pairs;
 pub mod passes;
 pub mod sets;
+pub mod side_by_side;
 pub mod slowest;
 pub mod stack;
 pub mod table;

@@ -1,4 +1,5 @@
-//! Prints the tables of the benchmark. The first argument is the limit for the archive on one file, in seconds.
+//! Prints the tables of the benchmark. The first argument is the limit for the archive on one file, in seconds; a second one is
+//! the word of a section, which is then printed alone.
 
 use bench::clingo::grounded;
 use bench::compared::{compared, Compared};
@@ -8,6 +9,7 @@ use bench::files::ordinary::ordinary;
 use bench::files::worst::{worst, Shape};
 use bench::files::{dense, LONGEST};
 use bench::pairs::{self, Pair};
+use bench::side_by_side::{self, Group};
 use bench::stack::used_by;
 use bench::{archive, edition, slowest, table};
 use second::Edition;
@@ -15,21 +17,34 @@ use std::time::Duration;
 
 const GRINGO_LIMIT: Duration = Duration::from_secs(60);
 
+/// What prints a section, given the limit.
+type Section = fn(Duration);
+
+/// The sections in their order, each with its word.
+const SECTIONS: [(&str, Section); 7] = [
+    ("files", |limit| Edition::BOTH.into_iter().for_each(|edition| groups(edition, limit))),
+    ("width", widths),
+    ("keys", keys),
+    ("returns", modules),
+    ("clingo", |_| clingo()),
+    ("stack", |_| stack()),
+    ("side-by-side", eights),
+];
+
 fn main() {
-    let seconds = std::env::args().nth(1).map_or(10, |argument| argument.parse().expect("a number of seconds"));
-    let limit = Duration::from_secs(seconds);
+    let arguments: Vec<String> = std::env::args().skip(1).collect();
+    let seconds = arguments.first().map_or(10, |argument| argument.parse().expect("a number of seconds"));
+    let word = arguments.get(1);
+    let known = word.is_none_or(|word| SECTIONS.iter().any(|section| section.0 == word));
+    assert!(known, "a section is one of {}", SECTIONS.map(|section| section.0).join(", "));
+    let alone = word.map_or(String::new(), |word| format!(" {word}"));
     println!(
-        "# Results\n\nPrinted by `bench/run {seconds}` on {}. See README.md for what the columns are.\n",
+        "# Results\n\nPrinted by `bench/run {seconds}{alone}` on {}. See README.md for what the columns are.\n",
         processor()
     );
-    for edition in Edition::BOTH {
-        groups(edition, limit);
+    for (_, section) in SECTIONS.iter().filter(|section| word.is_none_or(|word| section.0 == word)) {
+        section(Duration::from_secs(seconds));
     }
-    widths(limit);
-    keys(limit);
-    modules(limit);
-    clingo();
-    stack();
 }
 
 /// The name of the machine's processor.
@@ -166,6 +181,23 @@ fn stack() {
             row.extend([verdict, check].map(|bytes| table::thousands(bytes as u64)));
         }
         rows.push(row);
+    }
+    table::print(&rows);
+}
+
+/// Eight verdicts at the same time and one after the other.
+fn eights(limit: Duration) {
+    let stacks = Edition::BOTH.map(|edition| table::thousands(side_by_side::stack_bytes(edition) as u64));
+    println!(
+        "## Eight verdicts side by side\n\nOn a machine of {} cores, each thread with a stack of {} bytes, in the large edition {}.\n",
+        side_by_side::cores(),
+        stacks[0],
+        stacks[1]
+    );
+    let mut rows = vec![Group::titles()];
+    for (name, calls) in lists::eights() {
+        eprintln!("{}, {name}, side by side", side_by_side::editions(&calls));
+        rows.push(side_by_side::measure(&name, &calls, limit).line(limit));
     }
     table::print(&rows);
 }

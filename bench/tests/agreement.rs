@@ -3,11 +3,12 @@
 use bench::compared::checked;
 use bench::edition::name;
 use bench::files::filler::Filler;
-use bench::files::lists;
+use bench::files::lists::{self, Call};
 use bench::files::maze::{Maze, Order, Rest, ORDERS};
 use bench::files::turned::turned;
 use bench::files::worst::{worst, SHAPES};
 use bench::files::{dense, ordinary};
+use bench::side_by_side::{one_after_the_other, side_by_side};
 use bench::{archive, hand, passes};
 use pezvoran::{Answer, Refusal};
 use second::generate::{dense_in, every_in};
@@ -116,5 +117,28 @@ fn on_mazes_and_lures() {
                 agree(edition, &format!("{maze:?}"), &maze.file(edition, 3));
             }
         }
+    }
+}
+
+/// Eight verdicts at the same time leave what they leave one after the other, in each edition and in both together.
+#[test]
+fn side_by_side_and_one_after_the_other() {
+    let some = |edition, seeds: std::ops::RangeInclusive<u64>| {
+        seeds.map(move |seed| (edition, ordinary::ordinary(edition, 4096, seed)))
+    };
+    let [small, large] = Edition::BOTH;
+    let courses =
+        |edition| SHAPES[..4].iter().map(move |&shape| (edition, worst(edition, shape, Filler::Mixed, true, 3)));
+    let groups: [Vec<Call>; 3] = [
+        some(small, 1..=4).chain(courses(small)).collect(),
+        some(large, 1..=4).chain(courses(large)).collect(),
+        some(small, 5..=8).chain(some(large, 5..=8)).collect(),
+    ];
+    for calls in groups {
+        assert_eq!(calls.len(), 8);
+        let [one, other] = [one_after_the_other, side_by_side].map(|way| way(&calls, 3).left);
+        assert!(one == other, "side by side and one after the other");
+        let by_hand: Vec<_> = calls.iter().map(|(edition, file)| hand::verdict(*edition, file)).collect();
+        assert!(one == by_hand, "archive and hand-written solver");
     }
 }

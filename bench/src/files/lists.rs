@@ -15,6 +15,9 @@ pub type Named = (String, Vec<u8>);
 /// Two files with the same table: under class keys and under outside keys, or without and with returns at the top level.
 pub type Two = (String, [Vec<u8>; 2]);
 
+/// A file, and the edition that it is given to.
+pub type Call = (Edition, Vec<u8>);
+
 /// In kB, for the groups that grow.
 const SIZES: [usize; 6] = [1, 2, 4, 8, 16, 32];
 
@@ -105,6 +108,25 @@ pub fn lures(edition: Edition) -> Vec<Named> {
     let others = [(LONGEST, 205, 4), (LONGEST, 100, 8), (LONGEST / 2, 100, 8), (LONGEST / 4, 20, 4)];
     let others = others.map(|(size, variables, ways)| of(size, variables, ways, Order::Backwards));
     orders.into_iter().chain(others).collect()
+}
+
+/// Eight files of each group in each edition, ordinary ones with eight seeds, of the others the first of their lists; and four
+/// ordinary ones of each edition together.
+pub fn eights() -> Vec<(String, Vec<Call>)> {
+    let some_ordinary = |edition, seeds: RangeInclusive<u64>| {
+        seeds.map(|seed| (edition, ordinary(edition, LONGEST, seed))).collect::<Vec<Call>>()
+    };
+    let mut eights = Vec::new();
+    for edition in Edition::BOTH {
+        let first = |files: Vec<Named>| files.into_iter().take(8).map(|(_, file)| (edition, file)).collect();
+        eights.push(("ordinary".to_string(), some_ordinary(edition, 1..=8)));
+        eights.push(("dense".to_string(), first(dense_files(edition, 1..=2))));
+        eights.push(("worst case".to_string(), first(worst_files(edition, 1..=1))));
+        eights.push(("mazes".to_string(), first(mazes(edition))));
+    }
+    let mixed = Edition::BOTH.map(|edition| some_ordinary(edition, 1..=4)).concat();
+    eights.push(("ordinary, four of each edition".to_string(), mixed));
+    eights
 }
 
 fn maze(edition: Edition, size: usize, variables: usize, ways: usize, order: Order, rest: Rest) -> Named {
