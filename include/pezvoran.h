@@ -52,9 +52,10 @@ enum {
     PEZVORAN_LARGE_TABLE_WORDS = 35840
 };
 
-/* The stack, in bytes. A call takes no more than this of it, on any file (a test measures it); the check has two tables of its own there. What verdicts that run
-   side by side take of memory is a table and this for each of them: eight take 8 * (8 * PEZVORAN_TABLE_WORDS + PEZVORAN_VERDICT_STACK_BYTES), 409,600 bytes, and
-   2,564,096 in the large edition. A thread takes some of its stack for itself. One with too little dies. */
+/* The stack, in bytes. A call takes no more than this of it, on any file and table (computed from the archives and measured, in tests/memory); the check has two
+   tables of its own there. What verdicts that run side by side take of memory is a table and this for each of them: eight take
+   8 * (8 * PEZVORAN_TABLE_WORDS + PEZVORAN_VERDICT_STACK_BYTES), 409,600 bytes, and 2,564,096 in the large edition. A thread takes some of its stack for itself, and
+   more where a program has much thread-local data. One with too little dies. */
 enum {
     PEZVORAN_VERDICT_STACK_BYTES = 31744,
     PEZVORAN_CHECK_STACK_BYTES = 70656,

@@ -8,7 +8,7 @@
 #include <string.h>
 #include <sys/mman.h>
 
-enum { STACK = 1 << 20, PAINT = 0xa5, SLACK = 1024, GUEST_BAG = 1, FIRST = 2, LAST = 200, LABEL = 5, FUNCTION = 6 };
+enum { STACK = 1 << 20, PAINT = 0xa5, SLACK = 1024, FIRST = 2, LAST = 200, LABEL = 5, FUNCTION = 6 };
 
 static const struct operation {
     const char *name;
@@ -134,7 +134,8 @@ int main(void)
             uint64_t answer = operation->verdict(file, length, table, operation->table_words);
             struct call call = {operation, NULL, 0};
             size_t bytes = taken(&call);
-            if ((pezvoran_outcome_of(answer) != PEZVORAN_REFUSED) != files[f].readable || bytes == 0) {
+            int read = pezvoran_number(call.answer) == 0 || pezvoran_number(call.answer) == PEZVORAN_FORBIDDEN_HELD;
+            if ((pezvoran_outcome_of(answer) != PEZVORAN_REFUSED) != files[f].readable || read != files[f].readable || bytes == 0) {
                 fprintf(stderr, "stack: %s, %s: the call was not made, or not answered as it should\n", operation->name, files[f].name);
                 return 1;
             }
