@@ -18,8 +18,9 @@ fn one_more(passes: u8) -> u8 {
     if passes < MANY { passes + 1 } else { passes }
 }
 
-// Where o is 0, passes in place until one adds nothing, from a table without facts to the least one. Else one pass, into the table at o; answers whether it added
-// something. The verdict and the check share this function, so that its arrays lie on the stack while it works and not while a file is read.
+// Where o is 0, passes in place until one adds nothing, from a table without facts to the least one. Else one pass, into the table at o. Answers whether the last
+// pass added something, which in place it did not. Verdict and check share this function, so that its arrays lie on the stack while it works and not while a file is
+// read (DECISIONS, Req 03).
 pub fn iterate<'a>(
     t: &mut [u64],
     o: usize,
