@@ -17,7 +17,8 @@ use Rattle.format.proofs.Fields.{fits-length}
 use Rattle.format.proofs.Ready.{Among, AllFit, Made}
 use Rattle.program.specs.Statement as say
 use Rattle.program.specs.Statement.{statementsOf}
-use Rattle.program.specs.Program.{Program, noRecord, placed, guestStatements, guestsStatements, hostStatements, guestsOf, programOf, statements, returnedBy, returnsIn, returnsOf}
+use Rattle.program.specs.Program.{Program, noRecord, placed, functionMade, guestStatements, guestsStatements, hostStatements, guestThree, guestsOf, programOf, statements, returnedBy, returnsIn, returnsOf}
+use Rattle.program.proofs.Held.{made-either}
 use Rattle.analysis.proofs.Stated.{Stated, AllStated, by-kind}
 use Rattle.analysis.proofs.Proper.{Proper}
 
@@ -187,8 +188,12 @@ module _ (L : ℕ) (d : Reading) (m : Made L (d .sheet) (d .records)) where
       guest true e j = inl (sym (eqb-true 3 f e), List·Memᴰ·eq-of-singleton j)
       guest false e j = absurd (List·Memᴰ·not-nil j)
 
+      -- to make a function hands nothing back, in either way
+      made : returnedBy f (functionMade (guestThree (d .sheet))) ≡ []
+      made = made-either (λ a. returnedBy f a ≡ []) (guestThree (d .sheet)) refl refl
+
       shown : List·Memᴰ v (returnsIn f (guestsStatements (guestsOf (d .sheet)))) → HandsBack (d .records) f v
-      shown j = guest (eqb 3 f) refl j
+      shown j = guest (eqb 3 f) refl (rw made at j)
 
       go : (at : ℕ) → List·Memᴰ {A = ℕ × say.Statement} (at, say.return f v) (guestsStatements (guestsOf (d .sheet)))
           ⊎ List·Memᴰ {A = ℕ × say.Statement} (at, say.return f v) (hostStatements (d .records)) → HandsBack (d .records) f v

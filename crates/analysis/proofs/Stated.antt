@@ -4,7 +4,7 @@ use mathlib.Core.Path.{_≡_, refl, sym, subst, _∙_}
 use mathlib.Core.Logic.{inl, inr}
 use mathlib.Core.List.{List, [], _∷_, _++_, List·Memᴰ, List·Memᴰ·cases-cons, List·Memᴰ·not-nil, List·Memᴰ·head, List·Memᴰ·tail, List·Memᴰ·eq-of-singleton}
 use mathlib.Core.Bool.{Bool, true, false, cond, not, _&&_, _||_, true≢false}
-use Prim.Native.Nat.{ℕ, zero, suc, _-_, _<_}
+use Prim.Native.Nat.{ℕ, zero, suc, _+_, _-_, _<_}
 use native.Mathlib.Omega.{arith}
 use lib.ListN.{getD, drop, replicate}
 use lib.Dec.{eqb, leb, ltb}
@@ -23,7 +23,8 @@ use Rattle.program.specs.Statement as say
 use Rattle.program.specs.Statement.{statementsOf}
 use Rattle.layout.specs.Key.{inside, outside, Key}
 use Rattle.layout.proofs.Keys.{key-name}
-use Rattle.program.specs.Program.{placed, guestStatements, guestsStatements, hostStatements, guestsOf, namesOf, inClass, outsideClass}
+use Rattle.program.specs.Program.{placed, guestStatements, guestsStatements, hostStatements, namesOf, inClass, outsideClass, guestClass, guestThree, guestsOf}
+use Rattle.program.proofs.Held.{guest-key, made-either}
 
 abbrev pub Declared : Sheet → ℕ → Type 0
 Declared s l = declared s l ≡ true
@@ -244,8 +245,8 @@ module _ (L : ℕ) (s : Sheet) (ps : List (ℕ × Record)) (m : Made L s ps) whe
   guest-stated =
       let g = guest-declared L s ps m in
       let b : 1 < 256 = omega arith in
-      let key = key-names s inside refl in
-      ((g, b, g, g), ((g, b, b, key, g), ((g, b, key, b), ((g, b, b, b, six), ((g, b, b, b, g, six), ((g, b), ((g, b), ((g, b), tt))))))))
+      let key = key-names s (inside + guestClass s) (guest-key s) in
+      (made-either (Stated s) (guestThree s) (g, b, g, g) (g, b, g), ((g, b, b, key, g), ((g, b, key, b), ((g, b, b, b, six), ((g, b, b, b, g, six), ((g, b), ((g, b), ((g, b), tt))))))))
     where
       below : (n : ℕ) → AllBelow (replicate n 1)
       below zero v i = absurd (List·Memᴰ·not-nil i)

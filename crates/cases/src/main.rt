@@ -1,7 +1,7 @@
 // A test of the operations: for each file of data/ prints the verdict, and what the check says of the table it left, in the edition of 64 labels and then in
 // that of 256. The first eight are document 01's listed files, the next use every kind of record, then labels above 63, then one load with keys at the borders,
-// the last the names outside a class. What must be printed comes from the second implementation (`cargo run --example report_cases` in tests/second). Of a
-// file that cannot be read nothing is printed, and a line on standard error says why.
+// then the names outside a class, the last guests held to a class. What must be printed comes from the second implementation (`cargo run --example
+// report_cases` in tests/second). Of a file that cannot be read nothing is printed, and a line on standard error says why.
 use input::Got;
 use libc::STDERR_FILENO;
 use rows::LARGE_TABLE_WORDS;
@@ -77,4 +77,13 @@ fn main() {
     show(b"key-144");
     show(b"outside-1");
     show(b"outside-2");
+    show(b"profile-1");
+    show(b"profile-2");
+    show(b"profile-3");
+    show(b"profile-4");
+    show(b"profile-5");
+    show(b"profile-6");
+    show(b"profile-7");
+    show(b"profile-8");
+    show(b"profile-9");
 }

@@ -35,7 +35,8 @@ second false o e = omega (arith, e)
 
 -- ---- what the use shows
 
-pub gap-shown : (given : List ℕ) {wide : Bool} {file types flags masks formals : List ℕ} → Readable (labels wide) file → Arrays wide file types flags masks formals
+pub gap-shown : (given : List ℕ) {wide : Bool} {file types flags masks formals : List ℕ} {profile : ℕ} → Readable (labels wide) file
+    → Arrays wide file types flags masks formals profile
     → {t u : List ℕ} {w o r : ℕ} {grew : Bool} → Declares wide types w → Cleans wide w given t → o ≡ wordCount wide → Iterated wide o file t u grew → Grown wide u r
     → r ≡ gap (labels wide) (cleaned (labels wide) (readFile (labels wide) file .sheet) (tableAt wide 0 given)) (rules (labels wide) (programOf (readFile (labels wide) file)))
 gap-shown given {wide} {file} ok are {t} {u} {o = o} {grew = grew} declares cleans e iterated grown =

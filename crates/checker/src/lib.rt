@@ -23,13 +23,14 @@ pub fn lowest_gap<'a>(
     flags: &'a [u8; 256],
     masks: &'a [u8; 32],
     formals: &'a [u8; 1792],
+    profile: u8,
 ) -> usize
-    requires { ⌜ (wordCount wide ≤ length (now table)) × (2 * wordCount wide ≤ length (now t)) × Readable (labels wide) (now file) × Arrays wide (now file) (now types) (now flags) (now masks) (now formals) ⌝ }
+    requires { ⌜ (wordCount wide ≤ length (now table)) × (2 * wordCount wide ≤ length (now t)) × Readable (labels wide) (now file) × Arrays wide (now file) (now types) (now flags) (now masks) (now formals) profile ⌝ }
     ensures { λ r. ⌜ r ≡ gap (labels wide) (cleaned (labels wide) (readFile (labels wide) (now (file .entry)) .sheet) (tableAt wide 0 (now (table .entry)))) (rules (labels wide) (programOf (readFile (labels wide) (now (file .entry))))) ⌝ }
 {
     let known = cleaning::declared(types, wide);
     cleaning::clean(table, known, wide, t);
     let o = rows::word_count(wide);
-    iterate(t, o, file, wide, types, flags, masks, formals);
+    iterate(t, o, file, wide, types, flags, masks, formals, profile);
     cleaning::lowest_grown(t, wide)
 }

@@ -7,14 +7,13 @@ use Prim.Native.Nat.{ℕ, _≤_}
 use native.Mathlib.Omega.{arith}
 use lib.ListN.{length, drop}
 use lib.Dec.{eqb}
-use Rattle.layout.specs.Key.{inside}
 use Rattle.words.specs.Words.{bit}
 use Rattle.rows.specs.Row.{rowCount}
 use Rattle.rules.specs.Table.{Table, Has, facts}
 use Rattle.rules.proofs.Beyond.{facts-append}
 use Rattle.format.specs.Reading.{Readable, readFile}
 use Rattle.format.proofs.Missing.{readable-iff, concatenation-read}
-use Rattle.program.specs.Program.{Guest, programOf}
+use Rattle.program.specs.Program.{Guest, guestThree, programOf}
 use Rattle.analysis.specs.Verdict.{leastTable}
 use Rattle.analysis.proofs.Proper.{readable-proper}
 use Rattle.analysis.proofs.Least.{table-length, table-derives}
@@ -90,7 +89,7 @@ clean-none : (L : ℕ) (xs : List ℕ) (t : Table) → forbiddenHeld t (programI
 unfolding programOf
 clean-none L xs t clear g i l h f = go (List·Memᴰ·cases-cons i)
   where
-    go : (g ≡ record { label = 3; bag = 1; key = inside; forbidden = readFile L xs .sheet .forbidden }) ⊎ List·Memᴰ g [] → ⊥
+    go : (g ≡ guestThree (readFile L xs .sheet)) ⊎ List·Memᴰ g [] → ⊥
     go (inl e) =
         none-forbidden (readFile L xs .sheet) t clear l (
           has-cleaned L (readFile L xs .sheet) t 1 l (subst (λ (q : Guest). Has (cleaned L (readFile L xs .sheet) t) (q .bag) l) e h) .given,

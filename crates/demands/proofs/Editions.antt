@@ -16,6 +16,7 @@ use Rattle.verdicts.specs.Check.{Accepts}
 use Rattle.verdicts.proofs.Words.{words-rows, words-same, words-beyond, words-length, words-one}
 use Rattle.editions.proofs.Same.{small-in-large}
 use Rattle.toplevel.proofs.Silent.{silent}
+use Rattle.profiles.proofs.Profiles.{profiles}
 use Rattle.demands.specs.Editions.{RoundTrip, InWords, Edition, Editions}
 use Rattle.demands.proofs.Demands.{demands}
 
@@ -70,5 +71,6 @@ editions =
       one-word-room = λ t. div-one (length t);
       one-word-left = words-one;
       top-returns = silent;
+      profiles = profiles;
       small-in-large = small-in-large;
     }

@@ -15,6 +15,7 @@ use Rattle.verdicts.specs.Verdict.{verdictOutcome, verdictTable, verdictWords, 
 use Rattle.verdicts.specs.Check.{Accepts}
 use Rattle.editions.specs.Same.{Same}
 use Rattle.toplevel.specs.Silent.{Silent}
+use Rattle.profiles.specs.Profiles.{Profiles}
 use Rattle.demands.specs.Demands.{Demands}
 
 -- words and rows carry one another
@@ -62,5 +63,7 @@ pub record Editions : Type 0 where
   pub one-word-left : (xs t : List ℕ) → Words t → verdictWords 1 64 xs t ≡ verdictTable 64 xs t
   -- Req 02: a return at top level "is to be read and have no effect on any fact. The machine does nothing on that step."
   pub top-returns : (L : ℕ) → 5 ≤ L → Silent L
+  -- Req 04: what it changes that guests are held to a class of names: without the record, and where the class has every name, nothing; and never a fact more
+  pub profiles : (L : ℕ) → 5 ≤ L → Profiles L
   -- "A file readable in the small edition has the same verdict and count in the large one."
   pub small-in-large : (xs : List ℕ) → Readable 64 xs → Same 64 256 xs

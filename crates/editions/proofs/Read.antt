@@ -7,7 +7,7 @@ use Prim.Native.Nat.{ℕ, _+_, _≤_}
 use native.Mathlib.Omega.{arith}
 use lib.Dec.{leb, ltb}
 use borrow.Author.Tests.{ltb-true, lt-ltb}
-use Rattle.layout.specs.Layout.{Class, name, mask, newLabel, type, flag, anyLabel, hostLabel, functionLabel, plainLabel, dataLabel, scope, newVariable, variable, declaredVariable, globalVariable, variableName, key, fieldsOf}
+use Rattle.layout.specs.Layout.{Class, name, mask, newLabel, type, flag, anyLabel, hostLabel, functionLabel, plainLabel, dataLabel, scope, newVariable, variable, declaredVariable, globalVariable, variableName, nameClass, key, fieldsOf}
 use Rattle.format.specs.Sheet.{Sheet, typeOf, start}
 use Rattle.format.specs.Fields.{good, Fits}
 use Rattle.format.specs.Records.{Record, field, WellFormed, twice, after}
@@ -43,6 +43,7 @@ module _ (L n : ℕ) (s : Sheet) where
   good-widened declaredVariable b e = e
   good-widened globalVariable b e = e
   good-widened variableName b e = e
+  good-widened nameClass b e = e
   good-widened key b e = e
 
   fits-widened : (cs : List Class) (bs : List ℕ) → Fits L s cs bs → Fits (L + n) (widened n s) cs bs

@@ -10,7 +10,7 @@ use lib.Seq.{set-append-left, take-append-le, drop-append-le, paste}
 use lib.Dec.{eqb, leb}
 use borrow.Author.Tests.{eqb-true, ltb-true}
 use Rattle.layout.specs.Layout.{name, fieldsOf}
-use Rattle.format.specs.Sheet.{Sheet, start, withMask, withLabel, withForbidden, withFunction, withVariable}
+use Rattle.format.specs.Sheet.{Sheet, start, withMask, withLabel, withForbidden, withFunction, withVariable, withProfile}
 use Rattle.format.specs.Fields.{good}
 use Rattle.format.specs.Records.{Record, field, WellFormed, after}
 use Rattle.format.proofs.Tests.{and-second}
@@ -30,6 +30,7 @@ widened n s = record {
   owners = s .owners;
   names = s .names;
   forbidden = s .forbidden;
+  profile = s .profile;
 }
 
 -- ---- the start
@@ -46,6 +47,7 @@ start-widened L n five = λ i.
       owners = replicate 256 1;
       names = replicate 256 255;
       forbidden = 0;
+      profile = 255;
     }
   where
     split : (m k j a : ℕ) → m ≡ k + j → replicate m a ≡ replicate k a ++ replicate j a
@@ -64,15 +66,16 @@ paste-front xs ys at vs k h =
     rw (take-append-le at xs ys (omega arith), drop-append-le (at + k) xs ys h)
     (sym (append-assoc (take at xs ++ take k vs) (drop (at + k) xs) ys))
 
--- what `after` makes of the sheet, by its five tests of the kind
-abbrev afterBy : Bool → Bool → Bool → Bool → Bool → Sheet → List ℕ → Sheet
-afterBy one two three four five s b =
+-- what `after` makes of the sheet, by its six tests of the kind
+abbrev afterBy : Bool → Bool → Bool → Bool → Bool → Bool → Sheet → List ℕ → Sheet
+afterBy one two three four five nine s b =
     cond one (withMask s (field b 0) (field b 1))
     (cond two (withLabel s (field b 0) (field b 1) (field b 2))
     (cond three (withForbidden s (field b 0))
     (cond four (withFunction s (field b 0) (drop 1 b))
     (cond five (withVariable s (field b 0) (field b 1) (field b 2))
-    s))))
+    (cond nine (withProfile s (field b 0))
+    s)))))
 
 module _ (L n : ℕ) (s : Sheet) (z : Sized L s) where
   label-widened : (l t f : ℕ) → l < L → withLabel (widened n s) l t f ≡ widened n (withLabel s l t f)
@@ -86,6 +89,7 @@ module _ (L n : ℕ) (s : Sheet) (z : Sized L s) where
         owners = s .owners;
         names = s .names;
         forbidden = s .forbidden;
+        profile = s .profile;
       }
 
   function-widened : (l : ℕ) (vs : List ℕ) → l < L → withFunction (widened n s) l vs ≡ widened n (withFunction s l vs)
@@ -99,12 +103,13 @@ module _ (L n : ℕ) (s : Sheet) (z : Sized L s) where
         owners = s .owners;
         names = s .names;
         forbidden = s .forbidden;
+        profile = s .profile;
       }
 
   -- a label that a record writes to is below L
   pub after-widened : (r : Record) → WellFormed L s r → after (widened n s) (r .kind) (r .body) ≡ widened n (after s (r .kind) (r .body))
   unfolding after good
-  after-widened r w = go (eqb k 1) (eqb k 2) refl (eqb k 3) (eqb k 4) refl (eqb k 5)
+  after-widened r w = go (eqb k 1) (eqb k 2) refl (eqb k 3) (eqb k 4) refl (eqb k 5) (eqb k 9)
     where
       k : ℕ
       k = r .kind
@@ -117,13 +122,14 @@ module _ (L n : ℕ) (s : Sheet) (z : Sized L s) where
           subst (λ (m : ℕ). good L s (getD (fieldsOf m) 0 name) (field b 0) ≡ true) (eqb-true k j e)
           (fits-good L s (fieldsOf (r .kind)) (r .body) (w .fits) 0 (w .kind-known))
 
-      go : (one two : Bool) → eqb k 2 ≡ two → (three four : Bool) → eqb k 4 ≡ four → (five : Bool)
-          → afterBy one two three four five (widened n s) b ≡ widened n (afterBy one two three four five s b)
-      go true two is-two three four is-four five = refl
-      go false true is-two three four is-four five =
+      go : (one two : Bool) → eqb k 2 ≡ two → (three four : Bool) → eqb k 4 ≡ four → (five nine : Bool)
+          → afterBy one two three four five nine (widened n s) b ≡ widened n (afterBy one two three four five nine s b)
+      go true two is-two three four is-four five nine = refl
+      go false true is-two three four is-four five nine =
           label-widened (field b 0) (field b 1) (field b 2) (ltb-true _ _ (and-second (leb 5 (field b 0)) _ (first-good 2 is-two)))
-      go false false is-two true four is-four five = refl
-      go false false is-two false true is-four five =
+      go false false is-two true four is-four five nine = refl
+      go false false is-two false true is-four five nine =
           function-widened (field b 0) (drop 1 b) (function-below L s (field b 0) z (function-of s (field b 0) (first-good 4 is-four)))
-      go false false is-two false false is-four true = refl
-      go false false is-two false false is-four false = refl
+      go false false is-two false false is-four true nine = refl
+      go false false is-two false false is-four false true = refl
+      go false false is-two false false is-four false false = refl

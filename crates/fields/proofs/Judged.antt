@@ -1,7 +1,7 @@
 -- A field that is judged by the label types and the owners alone is judged by the sheet. Assumes nothing.
 use mathlib.Core.Path.{_≡_, refl}
 use Prim.Native.Nat.{ℕ}
-use Rattle.layout.specs.Layout.{Class, name, mask, newLabel, type, flag, anyLabel, hostLabel, functionLabel, plainLabel, dataLabel, scope, newVariable, variable, declaredVariable, globalVariable, variableName, key}
+use Rattle.layout.specs.Layout.{Class, name, mask, newLabel, type, flag, anyLabel, hostLabel, functionLabel, plainLabel, dataLabel, scope, newVariable, variable, declaredVariable, globalVariable, variableName, nameClass, key}
 use Rattle.format.specs.Sheet.{Sheet}
 use Rattle.format.specs.Fields.{good}
 use Rattle.fields.specs.Judging.{judging, fieldRefusal}
@@ -24,6 +24,7 @@ good-judging L s variable b = refl
 good-judging L s declaredVariable b = refl
 good-judging L s globalVariable b = refl
 good-judging L s variableName b = refl
+good-judging L s nameClass b = refl
 good-judging L s key b = refl
 
 pub refusal-judging : (L : ℕ) (s : Sheet) (c : Class) (b : ℕ) → fieldRefusal L (judging (s .types) (s .owners)) c b ≡ fieldRefusal L s c b

@@ -17,6 +17,7 @@ judging types owners = record {
   owners = owners;
   names = [];
   forbidden = 0;
+  profile = 255;
 }
 
 -- what byte b is refused with in a field of class c, 0 where it is good; L is the number of labels

@@ -79,18 +79,19 @@ pub fn is_good<'a>(wide: bool, types: &'a [u8], owners: &'a [u8], class: u8, b: 
         13 => owner_of(owners, b) != 1,
         14 => owner_of(owners, b) == 0,
         15 => either(b == 255, b < 32),
+        16 => b <= 7,
         _ => layout::is_key(b),
     }
 }
 
 // The number with which a bad byte in a field of each class is refused.
-const REFUSALS: [u8; 17] = [5, 5, 4, 5, 5, 4, 4, 4, 4, 4, 4, 3, 3, 3, 3, 5, 5];
+const REFUSALS: [u8; 18] = [5, 5, 4, 5, 5, 4, 4, 4, 4, 4, 4, 3, 3, 3, 3, 5, 5, 5];
 
 fn refusal_of(class: u8) -> u8
     ensures { λ r. ⌜ r ≡ refusalOf (classOf class) ⌝ }
 {
     let c = index(class);
-    if c < 17 { REFUSALS[c] } else { 5 }
+    if c < 18 { REFUSALS[c] } else { 5 }
 }
 
 // The number with which byte b is refused in a field of the class, 0 where it is good. Of the types those of the edition's labels count.

@@ -44,7 +44,7 @@ unfolding saidOf
 nothing-refused = refl
 
 -- 1: a kind that is no kind, behind a good record too
-pub unknown-kinds : Says ((0 ∷ []) ∷ (27 ∷ 0 ∷ []) ∷ (3 ∷ 3 ∷ 9 ∷ []) ∷ []) ((1, 0) ∷ (1, 0) ∷ (1, 2) ∷ [])
+pub unknown-kinds : Says ((0 ∷ []) ∷ (27 ∷ 0 ∷ []) ∷ (3 ∷ 3 ∷ 10 ∷ []) ∷ []) ((1, 0) ∷ (1, 0) ∷ (1, 2) ∷ [])
 unfolding saidOf
 unknown-kinds = refl
 
@@ -70,6 +70,20 @@ pub bad-keys : Says (load 31 ∷ load 32 ∷ load 127 ∷ load 128 ∷ load 135 
     ((0, 10) ∷ (5, 4) ∷ (5, 4) ∷ (0, 10) ∷ (0, 10) ∷ (0, 10) ∷ (0, 10) ∷ (5, 4) ∷ (0, 5) ∷ (5, 0) ∷ (0, 5) ∷ (5, 0) ∷ [])
 unfolding saidOf
 bad-keys = refl
+
+-- 5 and 6: a class up to 7 is good, "A c above 7 is refused 5, a repeat 6" (request 04); a bad class comes before the repeat, and a record that is cut short
+-- before both; the one record may stand anywhere, and what is declared behind it is declared
+abbrev pub profiles : List (List ℕ)
+profiles =
+    (9 ∷ 0 ∷ []) ∷ (9 ∷ 7 ∷ []) ∷ (9 ∷ 8 ∷ []) ∷ (9 ∷ 255 ∷ []) ∷ (9 ∷ 0 ∷ 9 ∷ 9 ∷ []) ∷ (9 ∷ 0 ∷ 9 ∷ 1 ∷ []) ∷ (9 ∷ 7 ∷ 9 ∷ 7 ∷ []) ∷ (9 ∷ 0 ∷ 9 ∷ [])
+    ∷ (9 ∷ 1 ∷ plain ++ 9 ∷ 1 ∷ []) ∷ (plain ++ 9 ∷ 1 ∷ 1 ∷ 3 ∷ 3 ∷ []) ∷ (9 ∷ 1 ∷ 1 ∷ 3 ∷ 3 ∷ 1 ∷ 3 ∷ 3 ∷ []) ∷ []
+
+abbrev pub profilesSay : List (ℕ × ℕ)
+profilesSay = (0, 2) ∷ (0, 2) ∷ (5, 0) ∷ (5, 0) ∷ (5, 2) ∷ (6, 2) ∷ (6, 2) ∷ (2, 2) ∷ (6, 6) ∷ (0, 9) ∷ (6, 5) ∷ []
+
+pub bad-profiles : Says profiles profilesSay
+unfolding saidOf
+bad-profiles = refl
 
 -- 4 and 3: a return in scope 0 is good, in scope 3 or 4, in a plain label's or in one that is not declared it is not; its value is judged where the scope
 -- is 0 too (request 02: "It is to be read")
@@ -121,6 +135,11 @@ pub large-returns :
     ≡ ((0, 16) ∷ (0, 3) ∷ (3, 0) ∷ (4, 0) ∷ [])
 unfolding saidOf
 large-returns = refl
+
+-- the same of classes
+pub large-profiles : map (saidOf 256) profiles ≡ profilesSay
+unfolding saidOf
+large-profiles = refl
 
 -- labels 64 and 255 are good, 4 is not; 255 owns a variable and is a scope, and the variable is declared by that
 pub large-labels :

@@ -1,5 +1,5 @@
--- What a well-formed record says and does, kind by kind: the kinds 1 to 5 write to the sheet, the others leave it alone. Every proof that
--- follows the sheet through a file goes by these six cases. Assumes nothing.
+-- What a well-formed record says and does, kind by kind: the kinds 1 to 5 and 9 write to the sheet, the others leave it alone. Every proof that
+-- follows the sheet through a file goes by these seven cases. Assumes nothing.
 use mathlib.Core.Path.{_≡_, sym, subst}
 use mathlib.Core.Logic.{_⊎_, inl, inr}
 use mathlib.Core.List.{List, [], _∷_}
@@ -10,7 +10,7 @@ use lib.ListN.{getD, replicate}
 use lib.Dec.{eqb, leb, ltb}
 use borrow.Author.Tests.{ne-eqb, eqb-true, eqb-false, leb-true, ltb-true, not-true, not-false}
 use Rattle.layout.specs.Layout.{variable, fieldsOf}
-use Rattle.format.specs.Sheet.{Sheet, typeOf, ownerOf, known, withMask, withLabel, withForbidden, withFunction, withVariable}
+use Rattle.format.specs.Sheet.{Sheet, typeOf, ownerOf, known, withMask, withLabel, withForbidden, withFunction, withVariable, withProfile}
 use Rattle.format.specs.Fields.{good, Fits}
 use Rattle.format.specs.Records.{Record, WellFormed, misnamed, twice, after}
 use Rattle.format.proofs.Tests.{and-first, and-second, and-false, or-true}
@@ -33,7 +33,8 @@ pub data Effect (L : ℕ) (s : Sheet) : ℕ → List ℕ → Sheet → Type 0 wh
       → Effect L s 4 (l ∷ vs) (withFunction s l vs)
   declares-variable : (v k n : ℕ) → 2 ≤ v → v ≤ 255 → (k ≡ 0) ⊎ Function (s .types) k → (n ≡ 255) ⊎ ((n < 32) × (k ≡ 0)) → ownerOf s v ≡ 1
       → Effect L s 5 (v ∷ k ∷ n ∷ []) (withVariable s v k n)
-  leaves-sheet : (k : ℕ) (b : List ℕ) → (k ≡ 3 → ⊥) → Effect L s k b s
+  holds-guests : (c : ℕ) → c ≤ 7 → s .profile ≡ 255 → Effect L s 9 (c ∷ []) (withProfile s c)
+  leaves-sheet : (k : ℕ) (b : List ℕ) → (k ≡ 3 → ⊥) → (k ≡ 9 → ⊥) → Effect L s k b s
 
 -- ---- what good bytes are, as facts
 
@@ -109,29 +110,37 @@ variable-effect L s (v ∷ k ∷ n ∷ []) f m t =
     (scope-of s k (f .1 .0)) (name-of k n (f .1 .1 .0) m) (equal _ _ t)
 variable-effect L s (v ∷ k ∷ n ∷ x ∷ xs) f m t = absurd (f .1 .1 .1)
 
+profile-effect : (L : ℕ) (s : Sheet) (b : List ℕ) → Shown L s b 9
+unfolding Fits good twice after
+profile-effect L s [] f m t = absurd f
+profile-effect L s (c ∷ []) f m t = holds-guests c (leb-true _ _ (f .0)) (equal _ _ t)
+profile-effect L s (c ∷ x ∷ xs) f m t = absurd (f .1)
+
 -- what holds of each kind that writes to the sheet, and of all others, holds of each
-by-kind : (P : ℕ → Type 0) → P 1 → P 2 → P 3 → P 4 → P 5
-    → ((k : ℕ) → (k ≡ 1 → ⊥) → (k ≡ 2 → ⊥) → (k ≡ 3 → ⊥) → (k ≡ 4 → ⊥) → (k ≡ 5 → ⊥) → P k) → (k : ℕ) → P k
-by-kind P a b c d e other k = go (ℕ-discrete k 1) (ℕ-discrete k 2) (ℕ-discrete k 3) (ℕ-discrete k 4) (ℕ-discrete k 5)
+by-kind : (P : ℕ → Type 0) → P 1 → P 2 → P 3 → P 4 → P 5 → P 9
+    → ((k : ℕ) → (k ≡ 1 → ⊥) → (k ≡ 2 → ⊥) → (k ≡ 3 → ⊥) → (k ≡ 4 → ⊥) → (k ≡ 5 → ⊥) → (k ≡ 9 → ⊥) → P k) → (k : ℕ) → P k
+by-kind P a b c d e f other k = go (ℕ-discrete k 1) (ℕ-discrete k 2) (ℕ-discrete k 3) (ℕ-discrete k 4) (ℕ-discrete k 5) (ℕ-discrete k 9)
   where
     is : {n : ℕ} → k ≡ n → P n → P k
     is q p = subst P (sym q) p
 
-    go : Dec (k ≡ 1) → Dec (k ≡ 2) → Dec (k ≡ 3) → Dec (k ≡ 4) → Dec (k ≡ 5) → P k
-    go (yes q) _ _ _ _ = is q a
-    go (no n) (yes q) _ _ _ = is q b
-    go (no n) (no o) (yes q) _ _ = is q c
-    go (no n) (no o) (no p) (yes q) _ = is q d
-    go (no n) (no o) (no p) (no r) (yes q) = is q e
-    go (no n) (no o) (no p) (no r) (no t) = other k n o p r t
+    go : Dec (k ≡ 1) → Dec (k ≡ 2) → Dec (k ≡ 3) → Dec (k ≡ 4) → Dec (k ≡ 5) → Dec (k ≡ 9) → P k
+    go (yes q) _ _ _ _ _ = is q a
+    go (no n) (yes q) _ _ _ _ = is q b
+    go (no n) (no o) (yes q) _ _ _ = is q c
+    go (no n) (no o) (no p) (yes q) _ _ = is q d
+    go (no n) (no o) (no p) (no r) (yes q) _ = is q e
+    go (no n) (no o) (no p) (no r) (no t) (yes q) = is q f
+    go (no n) (no o) (no p) (no r) (no t) (no u) = other k n o p r t u
 
-other-effect : (L : ℕ) (s : Sheet) (b : List ℕ) (k : ℕ) → (k ≡ 1 → ⊥) → (k ≡ 2 → ⊥) → (k ≡ 3 → ⊥) → (k ≡ 4 → ⊥) → (k ≡ 5 → ⊥)
+other-effect : (L : ℕ) (s : Sheet) (b : List ℕ) (k : ℕ) → (k ≡ 1 → ⊥) → (k ≡ 2 → ⊥) → (k ≡ 3 → ⊥) → (k ≡ 4 → ⊥) → (k ≡ 5 → ⊥) → (k ≡ 9 → ⊥)
     → Shown L s b k
 unfolding after
-other-effect L s b k n o p q r f m t = rw (ne-eqb k 1 n, ne-eqb k 2 o, ne-eqb k 3 p, ne-eqb k 4 q, ne-eqb k 5 r) (leaves-sheet k b p)
+other-effect L s b k n o p q r u f m t =
+    rw (ne-eqb k 1 n, ne-eqb k 2 o, ne-eqb k 3 p, ne-eqb k 4 q, ne-eqb k 5 r, ne-eqb k 9 u) (leaves-sheet k b p u)
 
 pub effect : (L : ℕ) (s : Sheet) (r : Record) → WellFormed L s r → Effect L s (r .kind) (r .body) (after s (r .kind) (r .body))
 effect L s r w =
     by-kind (Shown L s (r .body)) (mask-effect L s (r .body)) (label-effect L s (r .body)) (forbid-effect L s (r .body))
-    (function-effect L s (r .body)) (variable-effect L s (r .body)) (other-effect L s (r .body)) (r .kind)
+    (function-effect L s (r .body)) (variable-effect L s (r .body)) (profile-effect L s (r .body)) (other-effect L s (r .body)) (r .kind)
     (w .fits) (w .well-named) (w .once)

@@ -8,7 +8,7 @@ use Prim.Native.Nat.{ℕ, zero, suc, _<_, _≤_}
 use native.Mathlib.Nat.{le-of-suc-le-suc, not-suc-le-zero, suc-inj}
 use native.Mathlib.Omega.{arith}
 use lib.ListN.{length, getD}
-use Rattle.layout.specs.Layout.{Class, name, mask, newLabel, type, flag, anyLabel, hostLabel, functionLabel, plainLabel, dataLabel, scope, newVariable, variable, declaredVariable, globalVariable, variableName, key}
+use Rattle.layout.specs.Layout.{Class, name, mask, newLabel, type, flag, anyLabel, hostLabel, functionLabel, plainLabel, dataLabel, scope, newVariable, variable, declaredVariable, globalVariable, variableName, nameClass, key}
 use Rattle.format.specs.Sheet.{Sheet}
 use Rattle.format.specs.Fields.{good, refusalOf, Fits, firstBad}
 
@@ -40,6 +40,7 @@ refusal-range variable = (omega arith, omega arith)
 refusal-range declaredVariable = (omega arith, omega arith)
 refusal-range globalVariable = (omega arith, omega arith)
 refusal-range variableName = (omega arith, omega arith)
+refusal-range nameClass = (omega arith, omega arith)
 refusal-range key = (omega arith, omega arith)
 
 pub refusal-not-zero : (c : Class) → refusalOf c ≡ 0 → ⊥

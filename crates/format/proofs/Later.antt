@@ -10,14 +10,14 @@ use lib.ListN.{length, getD, set, length-set, List·getD-eq-default}
 use lib.Seq.{getD-set-other, length-paste}
 use lib.Dec.{eqb, leb}
 use borrow.Author.Tests.{eq-eqb, eqb-true}
-use Rattle.layout.specs.Layout.{Class, name, mask, newLabel, type, flag, anyLabel, hostLabel, functionLabel, plainLabel, dataLabel, scope, newVariable, variable, declaredVariable, globalVariable, variableName, key}
+use Rattle.layout.specs.Layout.{Class, name, mask, newLabel, type, flag, anyLabel, hostLabel, functionLabel, plainLabel, dataLabel, scope, newVariable, variable, declaredVariable, globalVariable, variableName, nameClass, key}
 use Rattle.format.specs.Sheet.{Sheet, typeOf, ownerOf, declared, known}
 use Rattle.format.specs.Fields.{good, Fits}
 use Rattle.format.specs.Records.{Record, WellFormed, after}
 use Rattle.format.specs.Reading.{sheetAfter, AllWellFormed}
 use Rattle.format.proofs.Tests.{and-map, or-map}
 use Rattle.format.proofs.Fields.{fits-length}
-use Rattle.format.proofs.Effect.{Effect, gives-mask, declares-label, forbids, defines, declares-variable, leaves-sheet, effect, not-equal, Function}
+use Rattle.format.proofs.Effect.{Effect, gives-mask, declares-label, forbids, defines, declares-variable, holds-guests, leaves-sheet, effect, not-equal, Function}
 
 -- the arrays have their lengths
 pub record Sized (L : ℕ) (s : Sheet) : Type 0 where
@@ -111,7 +111,9 @@ effect-extends {s = s} (declares-variable v k n h2 h255 hk hn e) =
       owners-kept = λ j h. set-keeps (s .owners) v k 1 j e h;
       sizes-kept = λ L z. sized-as L s _ z refl refl refl refl refl (length-set (s .owners) v k) (length-set (s .names) v n);
     }
-effect-extends {s = s} (leaves-sheet k b p) = extends-refl s
+effect-extends {s = s} (holds-guests c h e) =
+    record { types-kept = λ l h. refl; owners-kept = λ v h. refl; sizes-kept = λ L z. sized-as L s _ z refl refl refl refl refl refl refl }
+effect-extends {s = s} (leaves-sheet k b p q) = extends-refl s
 
 pub record-extends : (L : ℕ) (s : Sheet) (r : Record) → WellFormed L s r → Extends s (after s (r .kind) (r .body))
 record-extends L s r w = effect-extends (effect L s r w)
@@ -165,6 +167,7 @@ module _ (L : ℕ) (s s' : Sheet) (x : Extends s s') where
   good-stays declaredVariable b e = known-stays b e
   good-stays globalVariable b e = global-stays b e
   good-stays variableName b e = e
+  good-stays nameClass b e = e
   good-stays key b e = e
 
   pub fits-stays : (cs : List Class) (bs : List ℕ) → Fits L s cs bs → Fits L s' cs bs

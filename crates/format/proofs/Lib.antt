@@ -16,6 +16,7 @@ pub mod Variables
 pub mod Masks
 pub mod Functions
 pub mod Forbidden
+pub mod Profile
 pub mod Made
 pub mod Readable
 pub mod Missing

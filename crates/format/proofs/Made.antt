@@ -13,7 +13,7 @@ use Rattle.format.specs.Fields.{good, Fits}
 use Rattle.format.specs.Records.{Record, WellFormed, after}
 use Rattle.format.specs.Reading.{sheetAfter, AllWellFormed, positioned}
 use Rattle.format.proofs.Fields.{fits-length, fits-good}
-use Rattle.format.proofs.Effect.{Effect, gives-mask, declares-label, forbids, defines, declares-variable, leaves-sheet, effect, Variable, variable-of}
+use Rattle.format.proofs.Effect.{Effect, gives-mask, declares-label, forbids, defines, declares-variable, holds-guests, leaves-sheet, effect, Variable, variable-of}
 use Rattle.format.proofs.Later.{Sized, Extends, effect-extends, fits-stays, declared-below, function-room}
 use Rattle.format.proofs.Ready.{AllFit, startTypes, startFlags, Held, Made}
 use Rattle.format.proofs.Among.{followed}
@@ -22,6 +22,7 @@ use Rattle.format.proofs.Functions.{startDefined, functions-start, func
 use Rattle.format.proofs.Variables.{variables-start, variables-more, variables-declared}
 use Rattle.format.proofs.Masks.{masks-start, masks-more, masks-given}
 use Rattle.format.proofs.Forbidden.{forbidden-start, forbidden-more, forbidden-added}
+use Rattle.format.proofs.Profile.{profile-start, profile-more, profile-given}
 
 -- ---- the start
 
@@ -51,6 +52,7 @@ made-start L h =
       variables = variables-start L;
       masks = masks-start L;
       forbidden = forbidden-start L;
+      profile = profile-start L;
     }
 
 -- ---- one record more
@@ -89,6 +91,7 @@ made-record {L} {s} {k} {b} {s'} ps at m size fit x (gives-mask n a hn odd e) =
       variables = variables-more _ _ _ _ ps _ (x .types-kept) (m .variables);
       masks = masks-given _ ps at n a (m .masks) (omega (arith, m .sized .masks-length)) odd;
       forbidden = forbidden-more ps at 1 _ (λ z. omega arith) (m .forbidden);
+      profile = profile-more ps at 1 _ (λ z. omega arith) (m .profile);
     }
 made-record {L} {s} {k} {b} {s'} ps at m size fit x (declares-label l t f h5 hL h1 h3 hf e) =
     record {
@@ -99,6 +102,7 @@ made-record {L} {s} {k} {b} {s'} ps at m size fit x (declares-label l t f h5 hL 
       variables = variables-more _ _ _ _ ps _ (x .types-kept) (m .variables);
       masks = masks-more _ (m .masks);
       forbidden = forbidden-more ps at 2 _ (λ z. omega arith) (m .forbidden);
+      profile = profile-more ps at 2 _ (λ z. omega arith) (m .profile);
     }
 made-record {L} {s} {k} {b} {s'} ps at m size fit x (forbids l d) =
     record {
@@ -109,6 +113,7 @@ made-record {L} {s} {k} {b} {s'} ps at m size fit x (forbids l d) =
       variables = variables-more _ _ _ _ ps _ (x .types-kept) (m .variables);
       masks = masks-more _ (m .masks);
       forbidden = forbidden-added L _ ps at l (declared-below L s l (m .sized) d) (m .forbidden);
+      profile = profile-more ps at 3 _ (λ z. omega arith) (m .profile);
     }
 made-record {L} {s} {k} {b} {s'} ps at m size fit x (defines l vs f g e) =
     record {
@@ -121,6 +126,7 @@ made-record {L} {s} {k} {b} {s'} ps at m size fit x (defines l vs f g e) =
       variables = variables-more _ _ _ _ ps _ (x .types-kept) (m .variables);
       masks = masks-more _ (m .masks);
       forbidden = forbidden-more ps at 4 _ (λ z. omega arith) (m .forbidden);
+      profile = profile-more ps at 4 _ (λ z. omega arith) (m .profile);
     }
 made-record {L} {s} {k} {b} {s'} ps at m size fit x (declares-variable v o n h2 h255 ho hn e) =
     record {
@@ -133,8 +139,20 @@ made-record {L} {s} {k} {b} {s'} ps at m size fit x (declares-variable v o n h2 
           (omega (arith, m .sized .names-length)) h2 (omega arith) ho hn;
       masks = masks-more _ (m .masks);
       forbidden = forbidden-more ps at 5 _ (λ z. omega arith) (m .forbidden);
+      profile = profile-more ps at 5 _ (λ z. omega arith) (m .profile);
     }
-made-record {L} {s} {k} {b} {s'} ps at m size fit x (leaves-sheet j c p) =
+made-record {L} {s} {k} {b} {s'} ps at m size fit x (holds-guests c h e) =
+    record {
+      sized = size;
+      all-fit = fit;
+      labels = labels-more _ (m .labels);
+      functions = functions-more _ _ _ _ ps _ (x .owners-kept) (m .functions);
+      variables = variables-more _ _ _ _ ps _ (x .types-kept) (m .variables);
+      masks = masks-more _ (m .masks);
+      forbidden = forbidden-more ps at 9 _ (λ z. omega arith) (m .forbidden);
+      profile = profile-given ps at (s .profile) c h e (m .profile);
+    }
+made-record {L} {s} {k} {b} {s'} ps at m size fit x (leaves-sheet j c p q) =
     record {
       sized = size;
       all-fit = fit;
@@ -143,6 +161,7 @@ made-record {L} {s} {k} {b} {s'} ps at m size fit x (leaves-sheet j c p) =
       variables = variables-more _ _ _ _ ps _ (x .types-kept) (m .variables);
       masks = masks-more _ (m .masks);
       forbidden = forbidden-more ps at j c p (m .forbidden);
+      profile = profile-more ps at j c q (m .profile);
     }
 
 pub made-next : (L : ℕ) (s : Sheet) (ps : List (ℕ × Record)) (at : ℕ) (r : Record) → Made L s ps → WellFormed L s r

@@ -12,7 +12,7 @@ use lib.Seq.{getD-set-same, getD-set-other}
 use lib.Dec.{eqb}
 use borrow.Author.Tests.{eqb-true}
 use Rattle.layout.specs.Layout.{fieldsOf, functionLabel}
-use Rattle.format.specs.Sheet.{Sheet, start, withMask, withLabel, withForbidden, withFunction, withVariable}
+use Rattle.format.specs.Sheet.{Sheet, start, withMask, withLabel, withForbidden, withFunction, withVariable, withProfile}
 use Rattle.format.specs.Fields.{good}
 use Rattle.format.specs.Records.{Record, field, WellFormed, after}
 use Rattle.format.specs.Reading.{Reading, sheetAfter, AllWellFormed, positioned, lacking, readFile, Readable, Missing, Concatenation}
@@ -38,18 +38,19 @@ set-known xs l j d = go (ℕ-discrete j l)
 
 after-known : (s : Sheet) (k : ℕ) (b : List ℕ) (j : ℕ) → (getD (s .defined) j 0 ≡ 0 → ⊥) → getD (after s k b .defined) j 0 ≡ 0 → ⊥
 unfolding after
-after-known s k b j d = go (eqb k 1) (eqb k 2) (eqb k 3) (eqb k 4) (eqb k 5)
+after-known s k b j d = go (eqb k 1) (eqb k 2) (eqb k 3) (eqb k 4) (eqb k 5) (eqb k 9)
   where
-    go : (one two three four five : Bool) →
+    go : (one two three four five nine : Bool) →
         getD (cond one (withMask s (field b 0) (field b 1)) (cond two (withLabel s (field b 0) (field b 1) (field b 2))
         (cond three (withForbidden s (field b 0)) (cond four (withFunction s (field b 0) (drop 1 b))
-        (cond five (withVariable s (field b 0) (field b 1) (field b 2)) s)))) .defined) j 0 ≡ 0 → ⊥
-    go true two three four five = d
-    go false true three four five = d
-    go false false true four five = d
-    go false false false true five = set-known (s .defined) (field b 0) j d
-    go false false false false true = d
-    go false false false false false = d
+        (cond five (withVariable s (field b 0) (field b 1) (field b 2)) (cond nine (withProfile s (field b 0)) s))))) .defined) j 0 ≡ 0 → ⊥
+    go true two three four five nine = d
+    go false true three four five nine = d
+    go false false true four five nine = d
+    go false false false true five nine = set-known (s .defined) (field b 0) j d
+    go false false false false true nine = d
+    go false false false false false true = d
+    go false false false false false false = d
 
 all-known : (s : Sheet) (rs : List Record) (j : ℕ) → (getD (s .defined) j 0 ≡ 0 → ⊥) → getD (sheetAfter s rs .defined) j 0 ≡ 0 → ⊥
 unfolding sheetAfter

@@ -77,6 +77,12 @@ pub record Forbidden (L forbidden : ℕ) (ps : List (ℕ × Record)) : Type 0 wh
   -- a label is forbidden exactly where a record says so
   pub forbidden-record : (l : ℕ) → (bit forbidden l ≡ 1) ↔ Among 3 (l ∷ []) ps
 
+pub record Profile (profile : ℕ) (ps : List (ℕ × Record)) : Type 0 where
+  -- it is a class, or none
+  pub profile-range : (profile < 8) ⊎ (profile ≡ 255)
+  -- a record holds guests to a class exactly where that is the one
+  pub profile-record : (c : ℕ) → ((c < 8) × (profile ≡ c)) ↔ Among 9 (c ∷ []) ps
+
 -- s is the sheet that the records ps make
 pub record Made (L : ℕ) (s : Sheet) (ps : List (ℕ × Record)) : Type 0 where
   pub sized : Sized L s
@@ -87,6 +93,7 @@ pub record Made (L : ℕ) (s : Sheet) (ps : List (ℕ × Record)) : Type 0 where
   pub variables : Variables (s .types) (s .owners) (s .names) ps
   pub masks : Masks (s .masks) ps
   pub forbidden : Forbidden L (s .forbidden) ps
+  pub profile : Profile (s .profile) ps
 
 -- and no function label is left without its function
 pub record Ready (L : ℕ) (s : Sheet) (ps : List (ℕ × Record)) : Type 0 where

@@ -6,7 +6,7 @@ use mathlib.Core.Path.{_≡_}
 use mathlib.Core.Bool.{Bool, true, cond, not, _&&_, _||_}
 use Prim.Native.Nat.{ℕ, _%_}
 use lib.Dec.{eqb, leb, ltb}
-use Rattle.layout.specs.Layout.{Class, name, mask, newLabel, type, flag, anyLabel, hostLabel, functionLabel, plainLabel, dataLabel, scope, newVariable, variable, declaredVariable, globalVariable, variableName, key}
+use Rattle.layout.specs.Layout.{Class, name, mask, newLabel, type, flag, anyLabel, hostLabel, functionLabel, plainLabel, dataLabel, scope, newVariable, variable, declaredVariable, globalVariable, variableName, nameClass, key}
 use Rattle.layout.specs.Key.{isKey}
 use Rattle.format.specs.Sheet.{Sheet, typeOf, declared, ownerOf, known}
 
@@ -28,9 +28,11 @@ good L s variable b = eqb b 0 || known s b
 good L s declaredVariable b = known s b
 good L s globalVariable b = eqb (ownerOf s b) 0
 good L s variableName b = eqb b 255 || ltb b 32
+good L s nameClass b = leb b 7
 good L s key b = isKey b
 
--- "3 for a bad variable byte, 4 a bad label or scope, 5 a bad name, key, mask, type or flag"
+-- "3 for a bad variable byte, 4 a bad label or scope, 5 a bad name, key, mask, type or flag"; "A c above 7 is
+-- refused 5" (request 04)
 unfoldable pub refusalOf : Class → ℕ
 refusalOf name = 5
 refusalOf mask = 5
@@ -48,6 +50,7 @@ refusalOf variable = 3
 refusalOf declaredVariable = 3
 refusalOf globalVariable = 3
 refusalOf variableName = 5
+refusalOf nameClass = 5
 refusalOf key = 5
 
 -- every byte of a body is good in its field, and there is one for each field

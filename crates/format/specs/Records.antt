@@ -7,7 +7,7 @@ use Prim.Native.Nat.{ℕ, _<_}
 use lib.ListN.{getD, drop}
 use lib.Dec.{eqb}
 use Rattle.layout.specs.Layout.{fieldsOf, bodyLength}
-use Rattle.format.specs.Sheet.{Sheet, known, declared, withMask, withLabel, withForbidden, withFunction, withVariable}
+use Rattle.format.specs.Sheet.{Sheet, known, declared, withMask, withLabel, withForbidden, withFunction, withVariable, withProfile}
 use Rattle.format.specs.Fields.{Fits, firstBad}
 
 -- "one byte of kind, then a body"
@@ -23,7 +23,7 @@ field b j = getD b j 0
 unfoldable pub misnamed : ℕ → List ℕ → Bool
 misnamed k b = eqb k 5 && (not (eqb (field b 1) 0) && not (eqb (field b 2) 255))
 
--- "a name, label, variable or function declared twice"
+-- "a name, label, variable or function declared twice"; kind 9 "may stand once in a file", "a repeat 6" (request 04)
 unfoldable pub twice : Sheet → ℕ → List ℕ → Bool
 twice s k b =
     let n = field b 0 in
@@ -31,7 +31,8 @@ twice s k b =
     (cond (eqb k 2) (declared s n)
     (cond (eqb k 4) (not (eqb (getD (s .defined) n 0) 0))
     (cond (eqb k 5) (known s n)
-    false)))
+    (cond (eqb k 9) (not (eqb (s .profile) 255))
+    false))))
 
 -- the sheet with the record of kind k and body b
 unfoldable pub after : Sheet → ℕ → List ℕ → Sheet
@@ -41,7 +42,8 @@ after s k b =
     (cond (eqb k 3) (withForbidden s (field b 0))
     (cond (eqb k 4) (withFunction s (field b 0) (drop 1 b))
     (cond (eqb k 5) (withVariable s (field b 0) (field b 1) (field b 2))
-    s))))
+    (cond (eqb k 9) (withProfile s (field b 0))
+    s)))))
 
 -- a record that may stand where the records before it made the sheet s
 pub record WellFormed (L : ℕ) (s : Sheet) (r : Record) : Type 0 where

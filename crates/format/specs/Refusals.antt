@@ -27,8 +27,8 @@ pub record BadField (L : ℕ) (s : Sheet) (cs : List Class) (bs : List ℕ) (n :
   pub number : n ≡ refusalOf class
 
 -- a whole body is refused with n: "from the left, 3 for a bad variable byte, 4 a bad label or scope, 5 a bad name, key, mask, type or flag; 6 last,
--- for a name, label, variable or function declared twice". Of kind 5, a name other than 255 where the owner isn't 0 is refused once all three bytes
--- were good: the name is the last of them, so this is from the left too
+-- for a name, label, variable or function declared twice"; of request 04: "A c above 7 is refused 5, a repeat 6". Of kind 5, a
+-- name other than 255 where the owner isn't 0 is refused once all three bytes were good: the name is the last of them, so this is from the left too
 pub data BadBody (L : ℕ) (s : Sheet) (k : ℕ) (bs : List ℕ) (n : ℕ) : Type 0 where
   bad-byte : BadField L s (fieldsOf k) bs n → BadBody L s k bs n
   name-with-owner : Fits L s (fieldsOf k) bs → misnamed k bs ≡ true → n ≡ 5 → BadBody L s k bs n

@@ -17,6 +17,7 @@ pub record Sheet : Type 0 where
   pub owners : List ℕ  -- of each variable its owner scope, 1 where it is not declared
   pub names : List ℕ  -- of each variable its name, 255 for none
   pub forbidden : ℕ  -- the forbidden labels, bit l for label l
+  pub profile : ℕ  -- the class of names that guests are held to, 255 for none
 
 -- "0 global object, 1 Object.prototype, 2 Function.prototype, 3 whatever the guest makes, 4 Array.prototype. These are declared
 -- beforehand; 1, 2, 4 are built-in; 3 is a function, all four others plain." "Function 3 has 1 as this and all formals". No scope is label 1,
@@ -31,6 +32,7 @@ start L = record {
   owners = replicate 256 1;
   names = replicate 256 255;
   forbidden = 0;
+  profile = 255;
 }
 
 -- ---- what the sheet says
@@ -69,6 +71,7 @@ withMask s n m = record {
   owners = s .owners;
   names = s .names;
   forbidden = s .forbidden;
+  profile = s .profile;
 }
 
 -- kind 2: the type and flag of label l
@@ -82,6 +85,7 @@ withLabel s l t f = record {
   owners = s .owners;
   names = s .names;
   forbidden = s .forbidden;
+  profile = s .profile;
 }
 
 -- kind 3: label l is forbidden
@@ -95,6 +99,7 @@ withForbidden s l = record {
   owners = s .owners;
   names = s .names;
   forbidden = union (s .forbidden) (2 ^ l);
+  profile = s .profile;
 }
 
 -- kind 4: this and the six formals of function l, the seven variables vs
@@ -108,6 +113,7 @@ withFunction s l vs = record {
   owners = s .owners;
   names = s .names;
   forbidden = s .forbidden;
+  profile = s .profile;
 }
 
 -- kind 5: the owner and the name of variable v
@@ -121,4 +127,19 @@ withVariable s v k n = record {
   owners = set (s .owners) v k;
   names = set (s .names) v n;
   forbidden = s .forbidden;
+  profile = s .profile;
+}
+
+-- kind 9: guests are held to class c (request 04)
+abbrev pub withProfile : Sheet → ℕ → Sheet
+withProfile s c = record {
+  types = s .types;
+  flags = s .flags;
+  defined = s .defined;
+  formals = s .formals;
+  masks = s .masks;
+  owners = s .owners;
+  names = s .names;
+  forbidden = s .forbidden;
+  profile = c;
 }

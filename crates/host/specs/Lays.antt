@@ -1,5 +1,5 @@
--- What the engine goes by beside the table: the labels of functions and of built-in objects, the names of each class, the formals of functions and the
--- variables that they hand back, as words. Assumes nothing.
+-- What the engine goes by beside the table: the labels of functions and of built-in objects, the names of each class, the guest's key, the formals of
+-- functions and the variables that they hand back, as words. Assumes nothing.
 use mathlib.Core.Path.{_≡_}
 use mathlib.Core.Logic.{_⊎_, _↔_}
 use mathlib.Core.List.{List, List·Memᴰ}
@@ -12,10 +12,11 @@ use Rattle.rows.specs.Edition.{words}
 use Rattle.layout.specs.Key.{inside, outside, Key}
 use Rattle.format.specs.Sheet.{builtIn}
 use Rattle.rules.specs.Table.{Table, Has}
-use Rattle.program.specs.Program.{Program, namesOf, isFunction, returnsOf}
+use Rattle.program.specs.Program.{Program, namesOf, guestClass, isFunction, returnsOf}
 use Rattle.rows.specs.Run.{number}
 
--- the array `host`: from word 0 the labels of functions, from word 4 those of built-in objects, from word 8 the names of each class
+-- the array `host`: from word 0 the labels of functions, from word 4 those of built-in objects, from word 8 the names of each class, in word 16 the class
+-- that the guest is held to
 abbrev pub functionsIn : Bool → List ℕ → ℕ
 functionsIn wide host = number (words wide) host 0
 
@@ -25,6 +26,10 @@ builtInsIn wide host = number (words wide) host 4
 -- the names of class c as the array has them
 abbrev pub classIn : List ℕ → ℕ → ℕ
 classIn host c = getD host (8 + c) 0
+
+-- the guest's key: that of its class, whatever the word
+abbrev pub guestKeyIn : List ℕ → ℕ
+guestKeyIn host = inside + getD host 16 0 % 8
 
 -- all 32 names
 abbrev pub allNames : ℕ
@@ -64,6 +69,7 @@ pub record Lays (wide : Bool) (p : Program) (host : List ℕ) : Type 0 where
   pub functions : (f : ℕ) → (bit (functionsIn wide host) f ≡ 1) ↔ (isFunction (p .sheet) f ≡ true)
   pub built-ins : (l : ℕ) → (bit (builtInsIn wide host) l ≡ 1) ↔ (builtIn (p .sheet) l ≡ true)
   pub names : (key n : ℕ) → Key key → (bit (namesIn host key) n ≡ 1) ↔ List·Memᴰ n (namesOf (p .sheet) key)
+  pub guest-key : guestKeyIn host ≡ inside + guestClass (p .sheet)
 
 -- every label of s is a function's
 abbrev pub Functions : Program → ℕ → Type 0

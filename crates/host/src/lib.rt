@@ -1,8 +1,9 @@
-// What the engine goes by beside the table, in an array of 16 words: the labels of functions, those of built-in objects, the names of each class.
+// What the engine goes by beside the table, in an array of 17 words: the labels of functions, those of built-in objects, the names of each class, the
+// class of names that the guest is held to.
 ghost use mathlib.Core.Path.{_≡_};
 ghost use Rattle.layout.specs.Key.{Key};
 ghost use Rattle.sets.specs.Value.{value};
-ghost use Rattle.host.specs.Lays.{functionsIn, builtInsIn, namesIn};
+ghost use Rattle.host.specs.Lays.{functionsIn, builtInsIn, namesIn, guestKeyIn};
 
 pub mod handed;
 
@@ -12,15 +13,17 @@ const BUILT_INS: usize = 4;
 
 const CLASSES: usize = 8;
 
+const GUEST_CLASS: usize = 16;
+
 // The labels of functions.
-pub fn functions(host: &[u64; 16], wide: bool) -> Set
+pub fn functions(host: &[u64; 17], wide: bool) -> Set
     ensures { λ r. ⌜ value wide r ≡ functionsIn wide (now (host .entry)) ⌝ }
 {
     lent::row(host, 0, wide, 0)
 }
 
 // The labels of built-in objects.
-pub fn built_ins(host: &[u64; 16], wide: bool) -> Set
+pub fn built_ins(host: &[u64; 17], wide: bool) -> Set
     ensures { λ r. ⌜ value wide r ≡ builtInsIn wide (now (host .entry)) ⌝ }
 {
     lent::row(host, BUILT_INS, wide, 0)
@@ -30,7 +33,7 @@ pub fn built_ins(host: &[u64; 16], wide: bool) -> Set
 const ALL_NAMES: u64 = 0xffffffff;
 
 // The names of a key, as a word.
-pub fn names(host: &[u64; 16], key: u8) -> u64
+pub fn names(host: &[u64; 17], key: u8) -> u64
     requires { ⌜ Key key ⌝ }
     ensures { λ r. ⌜ r ≡ namesIn (now (host .entry)) key ⌝ }
 {
@@ -42,4 +45,11 @@ pub fn names(host: &[u64; 16], key: u8) -> u64
     }
     let class = host[CLASSES + ((key - layout::OUTSIDE) as usize)];
     words::without(ALL_NAMES, class)
+}
+
+// The key of the guest's class.
+pub fn guest_key(host: &[u64; 17]) -> u8
+    ensures { λ r. ⌜ (r ≡ guestKeyIn (now (host .entry))) × Key r ⌝ }
+{
+    layout::INSIDE + ((host[GUEST_CLASS] % 8) as u8)
 }

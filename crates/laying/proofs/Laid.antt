@@ -6,8 +6,8 @@ use mathlib.Core.Bool.{Bool, true, false, cond}
 use Prim.Native.Nat.{ℕ, _+_, _-_, _^_, _≤_, _<_}
 use native.Mathlib.Decide.{decLt}
 use native.Mathlib.Omega.{arith}
-use lib.ListN.{getD, take, length-take, List·getD-eq-default}
-use lib.Seq.{getD-take}
+use lib.ListN.{length, getD, set, take, length-take, List·getD-eq-default}
+use lib.Seq.{getD-take, getD-set-same, getD-set-other}
 use lib.Dec.{eqb, ltb}
 use borrow.Author.Tests.{ltb-true, ltb-false, eqb-true}
 use Rattle.words.specs.Words.{bit, difference}
@@ -19,12 +19,13 @@ use Rattle.layout.proofs.Keys.{key-below}
 use Rattle.rules.specs.Rule.{chosen}
 use Rattle.rules.proofs.Labels.{chosen-passes, passes-chosen}
 use Rattle.format.proofs.Tests.{untrue, not-both}
-use Rattle.program.specs.Program.{Program, inClass, outsideClass, namesOf}
+use Rattle.program.specs.Program.{Program, inClass, outsideClass, namesOf, guestClass}
+use Rattle.program.proofs.Held.{class-below}
 use Rattle.rows.specs.Run.{number}
 use Rattle.rows.proofs.Run.{number-same}
 use Rattle.lent.specs.Table.{place}
 use Rattle.lent.specs.Stored.{Stored}
-use Rattle.host.specs.Lays.{functionsIn, builtInsIn, classIn, allNames, namesIn, Lays}
+use Rattle.host.specs.Lays.{functionsIn, builtInsIn, classIn, guestKeyIn, allNames, namesIn, Lays}
 use Rattle.host.proofs.Rows.{row-first}
 use Rattle.laying.specs.Holds.{Holds, hasByte, Classes}
 
@@ -42,24 +43,32 @@ taken bytes L b l h = (λ e. into e (decLt l L), λ q. ap (λ (x : ℕ). eqb x b
         let none : getD (take L bytes) l 0 ≡ 0 = List·getD-eq-default (take L bytes) 0 (simp length-take (omega (arith, i))) in
         absurd (omega (arith, none, eqb-true (getD (take L bytes) l 0) b e))
 
-module _ (wide : Bool) (types flags : List ℕ) {masks t u v w : List ℕ} {fs bs : ℕ} (f : Holds (hasByte types 2) (labels wide) fs) (b : Holds (hasByte flags 1) (labels wide) bs)
-    (first : Stored (words wide) (place wide 0 0) fs t u) (second : Stored (words wide) (place wide 4 0) bs u v) (third : Classes 8 masks v w) where
+module _ (wide : Bool) (types flags : List ℕ) (profile class : ℕ) {masks t u v x : List ℕ} {fs bs : ℕ} (f : Holds (hasByte types 2) (labels wide) fs)
+    (b : Holds (hasByte flags 1) (labels wide) bs) (first : Stored (words wide) (place wide 0 0) fs t u) (second : Stored (words wide) (place wide 4 0) bs u v)
+    (third : Classes 8 masks v x) (long : 16 < length x) (class-is : class ≡ cond (ltb profile 8) profile 0) where
+  -- the last word is the guest's class, and the others are as they were
+  abbrev w : List ℕ
+  w = set x 16 class
+
+  same : (i : ℕ) → i < 16 → getD w i 0 ≡ getD x i 0
+  same i h = getD-set-other x 16 i class 0 (λ e. omega arith)
+
   functions-are : functionsIn wide w ≡ fs
   functions-are =
-      number-same (words wide) w u 0 0 (λ m h. third .same (0 + m) (omega (arith, few wide))
+      number-same (words wide) w u 0 0 (λ m h. same (0 + m) (omega (arith, few wide)) ∙ third .same (0 + m) (omega (arith, few wide))
       ∙ second .apart (0 + m) (inl (omega (arith, row-first wide 4, few wide))))
       ∙ ap (λ (i : ℕ). number (words wide) u i) (sym (row-first wide 0)) ∙ first .here
 
   built-ins-are : builtInsIn wide w ≡ bs
   built-ins-are =
-      number-same (words wide) w v 4 4 (λ m h. third .same (4 + m) (omega (arith, few wide)))
+      number-same (words wide) w v 4 4 (λ m h. same (4 + m) (omega (arith, few wide)) ∙ third .same (4 + m) (omega (arith, few wide)))
       ∙ ap (λ (i : ℕ). number (words wide) v i) (sym (row-first wide 4)) ∙ second .here
 
   module _ (p : Program) (masks-are : p .sheet .masks ≡ masks) where
     -- the names of a class, and those outside it
     in-class : (c n : ℕ) → c < 8 → (bit (classIn w c) n ≡ 1) ↔ ((n < 32) × (inClass (p .sheet) c n ≡ true))
     unfolding bit
-    in-class c n h = rw masks-are (third .names c h n)
+    in-class c n h = rw (masks-are, same (8 + c) (omega arith)) (third .names c h n)
 
     class-named : (c n : ℕ) → c < 8 → (bit (classIn w c) n ≡ 1) ↔ List·Memᴰ n (chosen (inClass (p .sheet) c) 32)
     class-named c n h = (
@@ -95,8 +104,13 @@ module _ (wide : Bool) (types flags : List ℕ) {masks t u v w : List ℕ} {fs b
         go false true e f = class-named (key - inside) n (omega (arith, ltb-false key inside e, ltb-true key outside f))
         go false false e f = outside-named (key - outside) n (omega (arith, ltb-false key outside f, key-below key k))
 
-    pub lays : p .sheet .types ≡ take (labels wide) types → p .sheet .flags ≡ take (labels wide) flags → Lays wide p w
-    lays types-are flags-are =
+    guest-keyed : p .sheet .profile ≡ profile → guestKeyIn w ≡ inside + guestClass (p .sheet)
+    guest-keyed e =
+        let here : getD w 16 0 ≡ guestClass (p .sheet) = getD-set-same x 16 class 0 long ∙ class-is ∙ ap (λ (c : ℕ). cond (ltb c 8) c 0) (sym e) in
+        omega (arith, here, class-below (p .sheet))
+
+    pub lays : p .sheet .types ≡ take (labels wide) types → p .sheet .flags ≡ take (labels wide) flags → p .sheet .profile ≡ profile → Lays wide p w
+    lays types-are flags-are profile-is =
         record {
           functions = λ l. rw (functions-are, types-are) (
               let s = taken types (labels wide) 2 l (omega arith) in
@@ -105,4 +119,5 @@ module _ (wide : Bool) (types flags : List ℕ) {masks t u v w : List ℕ} {fs b
               let s = taken flags (labels wide) 1 l (omega arith) in
               (λ o. s .1 (b l .0 o), λ e. b l .1 (s .0 e)));
           names = named;
+          guest-key = guest-keyed profile-is;
         }

@@ -1,10 +1,10 @@
-// The arrays that the engine goes by, filled once for a file: the labels of functions and of built-in objects, the names of each class, and the
-// variables that functions return.
+// The arrays that the engine goes by, filled once for a file: the labels of functions and of built-in objects, the names of each class, the
+// class that the guest is held to, and the variables that functions return.
 ghost use mathlib.Core.Path.{_≡_};
 ghost use mathlib.Core.Bool.{cond};
 ghost use Prim.Native.Nat.{_+_, _^_, _<_};
 ghost use lib.ListN.{length, take, replicate};
-ghost use lib.Dec.{eqb};
+ghost use lib.Dec.{eqb, ltb};
 ghost use Rattle.words.specs.Words.{bit, union};
 ghost use Rattle.rows.specs.Edition.{labels};
 ghost use Rattle.format.specs.Reading.{readFile, Readable};
@@ -21,6 +21,8 @@ use sets::Set;
 const BUILT_INS: usize = 4;
 
 const CLASSES: usize = 8;
+
+const GUEST_CLASS: usize = 16;
 
 fn label(l: usize) -> Label
     requires { ⌜ l < 256 ⌝ }
@@ -78,9 +80,9 @@ fn class_names(masks: &[u8; 32], class: usize) -> u64
 }
 
 // The names of each class.
-fn lay_names(masks: &[u8; 32], host: &mut [u64; 16])
-    requires { ⌜ length (now host) ≡ 16 ⌝ }
-    ensures { λ _. ⌜ Classes 8 (now (masks .entry)) (now (host .entry)) (now (host .exit)) ⌝ }
+fn lay_names(masks: &[u8; 32], host: &mut [u64; 17])
+    requires { ⌜ length (now host) ≡ 17 ⌝ }
+    ensures { λ _. ⌜ Classes 8 (now (masks .entry)) (now (host .entry)) (now (host .exit)) × (length (now (host .exit)) ≡ 17) ⌝ }
 {
     let mut c: usize = 0;
     while c < 8 {
@@ -89,16 +91,31 @@ fn lay_names(masks: &[u8; 32], host: &mut [u64; 16])
     }
 }
 
-// The array `host` of the program whose labels have these types and flags and whose names have these masks.
-pub fn lay(wide: bool, types: &[u8; 256], flags: &[u8; 256], masks: &[u8; 32], host: &mut [u64; 16])
-    requires { ⌜ length (now host) ≡ 16 ⌝ }
-    ensures { λ _. ⌜ ((p : Program) → p .sheet .types ≡ take (labels wide) (now (types .entry)) → p .sheet .flags ≡ take (labels wide) (now (flags .entry)) → p .sheet .masks ≡ now (masks .entry) → Lays wide p (now (host .exit))) ⌝ }
+// The class of names that the guest is held to: class 0, which has every name, where no record gives one.
+fn class_of(profile: u8) -> u64
+    ensures { λ r. ⌜ r ≡ cond (ltb profile 8) profile 0 ⌝ }
+{
+    if profile < 8 { profile as u64 } else { 0 }
+}
+
+// The array `host` of the program whose labels have these types and flags, whose names have these masks and whose guest has this profile.
+pub fn lay(
+    wide: bool,
+    types: &[u8; 256],
+    flags: &[u8; 256],
+    masks: &[u8; 32],
+    profile: u8,
+    host: &mut [u64; 17],
+)
+    requires { ⌜ length (now host) ≡ 17 ⌝ }
+    ensures { λ _. ⌜ ((p : Program) → p .sheet .types ≡ take (labels wide) (now (types .entry)) → p .sheet .flags ≡ take (labels wide) (now (flags .entry)) → p .sheet .masks ≡ now (masks .entry) → p .sheet .profile ≡ profile → Lays wide p (now (host .exit))) ⌝ }
 {
     let functions = labels_with(wide, types, 2);
     lent::write(host, 0, wide, 0, functions);
     let built_ins = labels_with(wide, flags, 1);
     lent::write(host, BUILT_INS, wide, 0, built_ins);
     lay_names(masks, host);
+    host[GUEST_CLASS] = class_of(profile);
 }
 
 // Variable x, among those of the f-th function of an array.

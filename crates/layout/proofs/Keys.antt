@@ -1,11 +1,11 @@
 -- What a key byte is: a name below `inside`, and below `keysEnd`. Assumes nothing.
 use mathlib.Core.Path.{_≡_, refl, sym, _∙_}
 use mathlib.Core.Bool.{Bool, true, false}
-use Prim.Native.Nat.{ℕ, _≤_, _<_}
+use Prim.Native.Nat.{ℕ, _+_, _≤_, _<_}
 use native.Mathlib.Decide.{decLt}
 use native.Mathlib.Omega.{arith}
 use lib.Dec.{ltb}
-use borrow.Author.Tests.{le-ltb, lt-leb, le-leb, ltb-true}
+use borrow.Author.Tests.{le-ltb, lt-ltb, lt-leb, le-leb, ltb-true}
 use Rattle.layout.specs.Key.{inside, keysEnd, isKey, Key}
 
 pub key-low : (b : ℕ) → b < inside → isKey b ≡ ltb b 32
@@ -24,3 +24,7 @@ key-name b k h = ltb-true b 32 (sym (key-low b h) ∙ k)
 
 pub key-below : (b : ℕ) → Key b → b < keysEnd
 key-below b k = elim (decLt b inside) [ yes h ↦ omega (arith, h) | no h ↦ ltb-true b keysEnd (sym (key-high b (omega (arith, h))) ∙ k) ]
+
+-- those of classes are keys
+pub class-key : (c : ℕ) → c < 8 → Key (inside + c)
+class-key c h = key-high (inside + c) (omega arith) ∙ lt-ltb (inside + c) keysEnd (omega arith)

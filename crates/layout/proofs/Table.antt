@@ -8,7 +8,7 @@ use native.Mathlib.Omega.{arith}
 use lib.ListN.{length, getD, replicate, List·getD-map, List·getD-eq-default}
 use lib.Dec.{leb}
 use borrow.Author.Tests.{leb-true}
-use Rattle.layout.specs.Layout.{Class, name, mask, newLabel, type, flag, anyLabel, hostLabel, functionLabel, plainLabel, dataLabel, scope, newVariable, variable, declaredVariable, globalVariable, variableName, key, kinds, fieldsOf, bodyLength, code, classes, classOf, bodyLengths, codesOf, fieldCodes}
+use Rattle.layout.specs.Layout.{Class, name, mask, newLabel, type, flag, anyLabel, hostLabel, functionLabel, plainLabel, dataLabel, scope, newVariable, variable, declaredVariable, globalVariable, variableName, nameClass, key, kinds, fieldsOf, bodyLength, code, classes, classOf, bodyLengths, codesOf, fieldCodes}
 
 -- ---- classes and their codes
 
@@ -29,11 +29,12 @@ class-of-code variable = refl
 class-of-code declaredVariable = refl
 class-of-code globalVariable = refl
 class-of-code variableName = refl
+class-of-code nameClass = refl
 class-of-code key = refl
 
--- the last class has every code from 16 on
-pub class-rest : (n : ℕ) → 16 ≤ n → classOf n ≡ key
-class-rest n h = elim (decLt 16 n) [ yes a ↦ List·getD-eq-default classes key a | no b ↦ (let e : n ≡ 16 = omega arith in rw e) ]
+-- the last class has every code from 17 on
+pub class-rest : (n : ℕ) → 17 ≤ n → classOf n ≡ key
+class-rest n h = elim (decLt 17 n) [ yes a ↦ List·getD-eq-default classes key a | no b ↦ (let e : n ≡ 17 = omega arith in rw e) ]
 
 -- ---- lengths
 

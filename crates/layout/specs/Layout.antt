@@ -22,6 +22,7 @@ pub data Class : Type 0 where
   declaredVariable : Class  -- a declared variable
   globalVariable : Class  -- a declared variable whose owner is scope 0
   variableName : Class  -- a name, or 255 for none
+  nameClass : Class  -- a class of names: 0 to 7
   key : Class  -- a name, 128 + c for all names of class c, or 136 + c for all names outside it, c from 0 to 7
 
 -- a row for each number from 0 to 26; no record has the kind of an empty row
@@ -36,7 +37,7 @@ kinds =
     (globalVariable ∷ []) ∷  -- 6 grant: v
     (hostLabel ∷ name ∷ hostLabel ∷ []) ∷  -- 7 property: l, n, l'
     (globalVariable ∷ hostLabel ∷ []) ∷  -- 8 held: v, l
-    [] ∷
+    (nameClass ∷ []) ∷  -- 9 profile: c (request 04)
     [] ∷
     [] ∷
     [] ∷
@@ -84,7 +85,8 @@ code variable = 12
 code declaredVariable = 13
 code globalVariable = 14
 code variableName = 15
-code key = 16
+code nameClass = 16
+code key = 17
 
 -- the classes in the order of their codes, and the class of a code
 abbrev pub classes : List Class
@@ -105,6 +107,7 @@ classes =
     ∷ declaredVariable
     ∷ globalVariable
     ∷ variableName
+    ∷ nameClass
     ∷ key
     ∷ []
 

@@ -7,3 +7,5 @@ pub mod OutsideFiles
 pub mod Outside
 pub mod TopReturnFiles
 pub mod TopReturn
+pub mod ProfileFiles
+pub mod Profile

@@ -1,5 +1,6 @@
 -- The laws of specs/Laws.antt: what a step can bring about, whatever the program, the state, the frame and the choice (Outward to Leaving); what does
--- nothing (Idle); what no step takes back (Grown); runs (Running); what stands at the start (Labels to Filling); and some of them put together (Granted).
+-- nothing (Idle); what no step takes back (Grown); runs (Running); what stands at the start (Labels to Filling); some of them put together (Granted); and
+-- which programs the machine sees alike (Alike).
 pub mod Places
 pub mod Changes
 pub mod Grown
@@ -21,3 +22,4 @@ pub mod Labels
 pub mod Beginning
 pub mod Filling
 pub mod Granted
+pub mod Alike

@@ -9,3 +9,4 @@ pub mod Prims
 pub mod Throws
 pub mod Guest
 pub mod Refrains
+pub mod Held

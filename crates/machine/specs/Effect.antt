@@ -2,12 +2,12 @@
 -- bring something about, and what an object made or a function called comes to. Assumes nothing.
 use mathlib.Core.Path.{_≡_}
 use mathlib.Core.List.{List, [], _∷_, List·Memᴰ}
-use mathlib.Core.Bool.{Bool, true}
+use mathlib.Core.Bool.{Bool, true, false}
 use mathlib.Core.Option.{Option, none, some}
 use Prim.Native.Nat.{ℕ, _≤_, _<_}
 use lib.ListN.{length, replicate}
 use Rattle.format.specs.Sheet.{typeOf, builtIn}
-use Rattle.program.specs.Statement.{Statement, load, store, makeFunction, call, new, return, throw, catch}
+use Rattle.program.specs.Statement.{Statement, load, store, make, makeFunction, call, new, return, throw, catch}
 use Rattle.program.specs.Program.{Program, Guest, statements, thisOf, formalsOf}
 use Rattle.machine.specs.State.{Value, primitive, object, State, objectAt, frameAt}
 use Rattle.machine.specs.Property.{objectPrototype, functionPrototype, arrayPrototype}
@@ -19,9 +19,12 @@ use Rattle.machine.specs.Seen.{Named, Holds, Writable, Lasts, Gets}
 abbrev pub Says : Program → Statement → Type 0
 Says p a = (at : ℕ) × List·Memᴰ (at, a) (statements p)
 
--- "The guest is scope 3 with variable 1 in every variable field, w, l, q = 3 and key 128: make function, load, store, call, new, return, throw, catch"
+-- "The guest is scope 3 with variable 1 in every variable field, w, l, q = 3 and key 128: make function, load, store, call, new, return, throw, catch"; of
+-- request 04: "the guest's load and store use key 128 + c", which is the guest's key, "and the prototype property of guest functions is written only if
+-- name 3 is in class c": else a function is made without one
 pub record GuestSays (p : Program) (g : Guest) : Type 0 where
-  pub makes-function : Says p (makeFunction (g .label) (g .bag) (g .label) (g .label))
+  pub makes-function : g .prototyped ≡ true → Says p (makeFunction (g .label) (g .bag) (g .label) (g .label))
+  pub makes-without : g .prototyped ≡ false → Says p (make (g .label) (g .bag) (g .label))
   pub loads : Says p (load (g .label) (g .bag) (g .bag) (g .key) (g .label))
   pub stores : Says p (store (g .label) (g .bag) (g .key) (g .bag))
   pub calls : Says p (call (g .label) (g .bag) (g .bag) (g .bag) (replicate 6 (g .bag)))

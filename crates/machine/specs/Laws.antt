@@ -160,6 +160,17 @@ module _ (p : Program) (s : State) (c : Choice) where
   StoresNothing =
       (k v key a : ℕ) → statementAt p (c .statement) .1 ≡ say.store k v key a → NoStore p s (read p s (c .frame) v (c .which 0)) → step p (act c) s ≡ s
 
+  -- a load or store does nothing under a name that its key does not allow. Of request 04: "The machine's guest is held likewise."
+  abbrev pub LoadsNoOther : Type 0
+  LoadsNoOther =
+      (k y v key w : ℕ) → statementAt p (c .statement) .1 ≡ say.load k y v key w → (List·Memᴰ (c .name) (namesOf (p .sheet) key) → ⊥)
+      → step p (act c) s ≡ s
+
+  abbrev pub StoresNoOther : Type 0
+  StoresNoOther =
+      (k v key a : ℕ) → statementAt p (c .statement) .1 ≡ say.store k v key a → (List·Memᴰ (c .name) (namesOf (p .sheet) key) → ⊥)
+      → step p (act c) s ≡ s
+
   -- of new: "returning a primitive from it changes nothing"
   abbrev pub ReturnsNothing : Type 0
   ReturnsNothing =

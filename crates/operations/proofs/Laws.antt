@@ -18,7 +18,7 @@ use Rattle.rules.specs.Gap.{gap}
 use Rattle.analysis.specs.Rules.{rules}
 use Rattle.format.specs.Sheet.{Sheet}
 use Rattle.format.specs.Reading.{readFile, Readable}
-use Rattle.program.specs.Program.{programOf}
+use Rattle.program.specs.Program.{guestThree, programOf}
 use Rattle.analysis.specs.Verdict.{leastTable, heldForbidden}
 use Rattle.answer.specs.Outcome.{accepted, refused, holds}
 use Rattle.verdicts.specs.Verdict.{verdictOutcome, verdictWords, judged, forbiddenHeld, programIn}
@@ -32,7 +32,6 @@ use Rattle.cleaning.proofs.Copies.{cleaned-rows}
 use Rattle.records.proofs.Walks.{five-labels}
 use Rattle.sheet.specs.View.{sheetOf}
 use Rattle.sheet.specs.declared.Sheet as declared
-use Rattle.passes.specs.Order.{guestThree}
 use Rattle.passes.specs.Arrays.{Arrays}
 use Rattle.solver.specs.Solved.{Solved}
 use Rattle.operations.specs.Judgment.{judgment}
@@ -40,13 +39,14 @@ use Rattle.operations.specs.Judgment.{judgment}
 -- ---- the arrays of the sheet that was read
 
 pub arrays-read : (wide : Bool) (file : List ℕ) (s : declared.Sheet) → sheetOf wide s ≡ readFile (labels wide) file .sheet
-    → Arrays wide file (s .types) (s .flags) (s .masks) (s .formals)
+    → Arrays wide file (s .types) (s .flags) (s .masks) (s .formals) (s .profile)
 arrays-read wide file s e =
     record {
       types-are = ap (λ (s : Sheet). s .types) (sym e);
       flags-are = ap (λ (s : Sheet). s .flags) (sym e);
       masks-are = ap (λ (s : Sheet). s .masks) (sym e);
       formals-are = ap (λ (s : Sheet). s .formals) (sym e);
+      profile-is = ap (λ (s : Sheet). s .profile) (sym e);
     }
 
 -- ---- a set that is held
@@ -57,11 +57,11 @@ some-held {b} {n} e f = let z = eqb-false n 0 (sym e ∙ f) in omega (arith, z)
 pub not-none : {b : Bool} {n w : ℕ} → b ≡ eqb n 0 → b ≡ false → n ≡ w → w ≡ 0 → ⊥
 not-none {b} {n} e f same z = eqb-false n 0 (sym e ∙ f) (same ∙ z)
 
--- the labels in the guest's row of the words u that are in w
-pub held-in : {v f w : ℕ} (wide : Bool) (u : List ℕ) → v ≡ bitAnd (getD (tableAt wide 0 u) 1 0) f → f ≡ w
-    → v ≡ heldForbidden (tableAt wide 0 u) (guestThree w)
+-- the labels in the guest's row of the words u that are forbidden
+pub held-in : {v f : ℕ} (wide : Bool) (u : List ℕ) (s : Sheet) → v ≡ bitAnd (getD (tableAt wide 0 u) 1 0) f → f ≡ s .forbidden
+    → v ≡ heldForbidden (tableAt wide 0 u) (guestThree s)
 unfolding heldForbidden
-held-in wide u e same = e ∙ ap (bitAnd (getD (tableAt wide 0 u) 1 0)) same
+held-in wide u s e same = e ∙ ap (bitAnd (getD (tableAt wide 0 u) 1 0)) same
 
 -- ---- the editions
 
@@ -112,13 +112,13 @@ module _ (wide : Bool) (xs t : List ℕ) where
 
     module _ (ok : Readable L xs) where
       judged-is : judged L (programIn L xs)
-          ≡ judgment L (heldForbidden (leastTable L (programIn L xs)) (guestThree forbidden)) (facts L (leastTable L (programIn L xs)))
+          ≡ judgment L (heldForbidden (leastTable L (programIn L xs)) (guestThree (readFile L xs .sheet))) (facts L (leastTable L (programIn L xs)))
       unfolding judged forbiddenHeld programOf
       judged-is = refl
 
       -- what is held and counted in the table that became the least one
       pub judged-outcome : (x : Table) → x ≡ leastTable L (programIn L xs)
-          → verdictOutcome L (roomFor k t) xs ≡ judgment L (heldForbidden x (guestThree forbidden)) (facts L x)
+          → verdictOutcome L (roomFor k t) xs ≡ judgment L (heldForbidden x (guestThree (readFile L xs .sheet))) (facts L x)
       judged-outcome x e = rw e (verdict-judged L xs (five-labels wide) ok (roomFor k t) enough ∙ judged-is)
 
       -- the words that the solver leaves
@@ -165,16 +165,16 @@ module _ (wide : Bool) (xs t : List ℕ) where
         last = rw (← gap-is) none
 
         -- the guest's row is in the table
-        held-is : heldForbidden (tableAt wide 0 t) (guestThree forbidden) ≡ heldForbidden lent (guestThree forbidden)
+        held-is : heldForbidden (tableAt wide 0 t) (guestThree (readFile L xs .sheet)) ≡ heldForbidden lent (guestThree (readFile L xs .sheet))
         unfolding heldForbidden
         held-is = ap (λ (x : ℕ). bitAnd x forbidden) (bag-row wide t full)
 
-        pub check-clear : heldForbidden (tableAt wide 0 t) (guestThree forbidden) ≡ 0 → checkOutcome L xs lent ≡ accepted 0
+        pub check-clear : heldForbidden (tableAt wide 0 t) (guestThree (readFile L xs .sheet)) ≡ 0 → checkOutcome L xs lent ≡ accepted 0
         unfolding checked programOf forbiddenHeld
         check-clear e = check-read ∙ rw (le-ltb _ _ last, eq-eqb _ _ (sym held-is ∙ e))
 
-        pub check-held : (heldForbidden (tableAt wide 0 t) (guestThree forbidden) ≡ 0 → ⊥)
-            → checkOutcome L xs lent ≡ holds (trailingZeros L (heldForbidden (tableAt wide 0 t) (guestThree forbidden))) 3
+        pub check-held : (heldForbidden (tableAt wide 0 t) (guestThree (readFile L xs .sheet)) ≡ 0 → ⊥)
+            → checkOutcome L xs lent ≡ holds (trailingZeros L (heldForbidden (tableAt wide 0 t) (guestThree (readFile L xs .sheet)))) 3
         unfolding checked programOf forbiddenHeld
         check-held e =
             check-read ∙ rw (le-ltb _ _ last, ne-eqb _ _ (λ z. e (held-is ∙ z)))

@@ -61,6 +61,7 @@ pub fn judge(file: &[u8], wide: bool, table: &mut [u64]) -> Answer
         &r.sheet.flags,
         &r.sheet.masks,
         &r.sheet.formals,
+        r.sheet.profile,
     );
     let held = whole::held(table, wide, r.sheet.forbidden);
     judged(wide, held, whole::count(table, wide))
@@ -89,6 +90,7 @@ pub fn examine(file: &[u8], wide: bool, table: &[u64], room: &mut [u64]) -> Answ
         &r.sheet.flags,
         &r.sheet.masks,
         &r.sheet.formals,
+        r.sheet.profile,
     );
     if gap < rows::row_count(wide) {
         return Answer::Refused(10, gap);

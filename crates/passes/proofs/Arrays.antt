@@ -27,7 +27,7 @@ function-below s L types e f h = go (decLt f L)
         let two : getD (take L types) f 0 ≡ 2 = ap (λ (x : List ℕ). getD x f 0) (sym e) ∙ eqb-true (getD (s .types) f 0) 2 h in
         absurd (omega (arith, none, two))
 
-module _ {wide : Bool} {file types flags masks formals : List ℕ} (are : Arrays wide file types flags masks formals) where
+module _ {wide : Bool} {file types flags masks formals : List ℕ} {profile : ℕ} (are : Arrays wide file types flags masks formals profile) where
   formals-known : FormalsOf (programOf (readFile (labels wide) file)) formals
   unfolding programOf
   formals-known f j h i =
@@ -35,12 +35,13 @@ module _ {wide : Bool} {file types flags masks formals : List ℕ} (are : Arrays
       ap (λ (x : List ℕ). getD x (7 * f + j) 0) (are .formals-are) ∙ getD-take (7 * labels wide) formals (7 * f + j) 0 (omega (arith, low, i))
 
   pub known : {host : List ℕ} {r : Returns}
-      → ((p : Program) → p .sheet .types ≡ take (labels wide) types → p .sheet .flags ≡ take (labels wide) flags → p .sheet .masks ≡ masks → Lays wide p host)
+      → ((p : Program) → p .sheet .types ≡ take (labels wide) types → p .sheet .flags ≡ take (labels wide) flags → p .sheet .masks ≡ masks
+      → p .sheet .profile ≡ profile → Lays wide p host)
       → ReturnsOf (programOf (readFile (labels wide) file)) r → Known wide (programOf (readFile (labels wide) file)) host types formals r
   unfolding programOf
   known lays returning =
       record {
-        lays = lays (programOf (readFile (labels wide) file)) (are .types-are) (are .flags-are) (are .masks-are);
+        lays = lays (programOf (readFile (labels wide) file)) (are .types-are) (are .flags-are) (are .masks-are) (are .profile-is);
         typed = are .types-are;
         formals-of = formals-known;
         returning = returning;

@@ -11,13 +11,13 @@ use Rattle.rules.specs.Rule.{Rule, give, over, every}
 use Rattle.rules.specs.Told.{Told}
 use Rattle.rules.proofs.Told.{told-monotone}
 use Rattle.format.specs.Reading.{readFile}
-use Rattle.program.specs.Program.{Program, guestStatements, guestsStatements, hostStatements, statements, programOf}
+use Rattle.program.specs.Program.{Program, guestStatements, guestsStatements, hostStatements, guestsOf, statements, programOf}
 use Rattle.analysis.specs.Rules.{ruleOf, chainRule, declaredLabels, rules}
 use Rattle.uses.specs.Use.{Apart, tells, Used}
 use Rattle.records.proofs.Rules.{rules-split}
 use Rattle.shared.specs.Apply.{Applies}
 use Rattle.shared.proofs.Applied.{applies-plain, applies-for, applies-then}
-use Rattle.passes.specs.Order.{guestThree, guestRules, recordRules, lineRules, PassOf}
+use Rattle.passes.specs.Order.{guestRules, recordRules, lineRules, PassOf}
 use Rattle.passes.proofs.Every.{told-append, append-told}
 
 -- the lines: three uses, one after the other
@@ -39,7 +39,7 @@ module _ (L : ℕ) (file : List ℕ) (t : Table) (r l : ℕ) where
   told-pass (inr (inl (inr h))) = absurd h
   told-pass (inr (inr h)) =
       let p = programOf (readFile L file) in
-      let gs = guestsStatements (guestThree 0 ∷ []) in
+      let gs = guestsStatements (guestsOf (readFile L file .sheet)) in
       let hs = hostStatements (readFile L file .records) in
       go (append-told L t r l (map (λ a. ruleOf p (a .1)) gs) (map (λ a. ruleOf p (a .1)) hs) (subst (λ (rs : List Rule). Told L t (every rs) r l) (rules-split p gs hs) h))
     where
@@ -55,12 +55,12 @@ module _ (L : ℕ) (file : List ℕ) (t : Table) (r l : ℕ) where
   pass-told (inl (inr (inl h))) = inr (inl (inl h))
   pass-told (inl (inr (inr h))) =
       let p = programOf (readFile L file) in
-      let gs = guestsStatements (guestThree 0 ∷ []) in
+      let gs = guestsStatements (guestsOf (readFile L file .sheet)) in
       let hs = hostStatements (readFile L file .records) in
       inr (inr (subst (λ (rs : List Rule). Told L t (every rs) r l) (sym (rules-split p gs hs)) (told-append L t r l (map (λ a. ruleOf p (a .1)) gs) (map (λ a. ruleOf p (a .1)) hs) (inl h))))
   pass-told (inr h) =
       let p = programOf (readFile L file) in
-      let gs = guestsStatements (guestThree 0 ∷ []) in
+      let gs = guestsStatements (guestsOf (readFile L file .sheet)) in
       let hs = hostStatements (readFile L file .records) in
       inr (inr (subst (λ (rs : List Rule). Told L t (every rs) r l) (sym (rules-split p gs hs)) (told-append L t r l (map (λ a. ruleOf p (a .1)) gs) (map (λ a. ruleOf p (a .1)) hs) (inr h))))
 

@@ -6,11 +6,10 @@ use Prim.Native.Nat.{ℕ, zero, suc}
 use lib.ListN.{take, replicate}
 use Rattle.rows.specs.Edition.{labels}
 use Rattle.rows.specs.Row.{chain}
-use Rattle.layout.specs.Key.{inside}
 use Rattle.rules.specs.Rule.{Rule, give, over, every, _also_}
 use Rattle.format.specs.Reading.{readFile}
 use Rattle.program.specs.Statement as say
-use Rattle.program.specs.Program.{Program, Guest, guestsStatements, hostStatements, programOf}
+use Rattle.program.specs.Program.{Program, Guest, functionMade, guestsStatements, hostStatements, guestsOf, programOf}
 use Rattle.analysis.specs.Rules.{ruleOf, chainRule, declaredLabels, rules}
 use Rattle.rows.specs.declared.Var.{Var}
 use Rattle.records.specs.declared.Site.{Site}
@@ -18,20 +17,20 @@ use Rattle.uses.specs.Use.{tells}
 use Rattle.host.specs.Lays.{Returns, Lays, FormalsOf, ReturnsOf}
 use Rattle.shared.specs.Apply.{Applies}
 
--- guest 3, whatever is forbidden to it
-abbrev pub guestThree : ℕ → Guest
-guestThree forbidden = record { label = 3; bag = say.bag; key = inside; forbidden = forbidden }
+-- guest 3 with this key, whatever is forbidden to it
+abbrev pub guestWith : ℕ → Bool → Guest
+guestWith key prototyped = record { label = 3; bag = say.bag; key = key; prototyped = prototyped; forbidden = 0 }
 
 -- its statements, one by one: make function, load, store, call, new, return, throw, catch
-abbrev pub guestStatement : ℕ → say.Statement
-guestStatement zero = say.makeFunction 3 1 3 3
-guestStatement (suc zero) = say.load 3 1 1 inside 3
-guestStatement (suc (suc zero)) = say.store 3 1 inside 1
-guestStatement (suc (suc (suc zero))) = say.call 3 1 1 1 (replicate 6 1)
-guestStatement (suc (suc (suc (suc zero)))) = say.new 3 1 1 1 3 (replicate 6 1)
-guestStatement (suc (suc (suc (suc (suc zero))))) = say.return 3 1
-guestStatement (suc (suc (suc (suc (suc (suc zero)))))) = say.throw 3 1
-guestStatement (suc (suc (suc (suc (suc (suc (suc i))))))) = say.catch 3 1
+abbrev pub guestStatement : ℕ → Bool → ℕ → say.Statement
+guestStatement key prototyped zero = functionMade (guestWith key prototyped)
+guestStatement key prototyped (suc zero) = say.load 3 1 1 key 3
+guestStatement key prototyped (suc (suc zero)) = say.store 3 1 key 1
+guestStatement key prototyped (suc (suc (suc zero))) = say.call 3 1 1 1 (replicate 6 1)
+guestStatement key prototyped (suc (suc (suc (suc zero)))) = say.new 3 1 1 1 3 (replicate 6 1)
+guestStatement key prototyped (suc (suc (suc (suc (suc zero))))) = say.return 3 1
+guestStatement key prototyped (suc (suc (suc (suc (suc (suc zero)))))) = say.throw 3 1
+guestStatement key prototyped (suc (suc (suc (suc (suc (suc (suc i))))))) = say.catch 3 1
 
 -- a call of the guest: variable 1 in every field
 abbrev pub theSite : Site
@@ -46,7 +45,7 @@ theSite =
 
 -- the rules of its statements
 abbrev pub guestRules : Program → Rule
-guestRules p = every (map (λ s. ruleOf p (s .1)) (guestsStatements (guestThree 0 ∷ [])))
+guestRules p = every (map (λ s. ruleOf p (s .1)) (guestsStatements (guestsOf (p .sheet))))
 
 -- the rules of the records of a file
 abbrev pub recordRules : ℕ → Program → List ℕ → Rule

@@ -54,6 +54,10 @@ local v k = 5 ∷ v ∷ k ∷ 255 ∷ []
 abbrev pub named : ℕ → ℕ → List ℕ
 named v n = 5 ∷ v ∷ 0 ∷ n ∷ []
 
+-- the guest is held to class c
+abbrev pub profile : ℕ → List ℕ
+profile c = 9 ∷ c ∷ []
+
 -- ---- what the start has, and grants
 
 abbrev pub grant : ℕ → List ℕ

@@ -3,3 +3,4 @@ pub mod File
 pub mod Statements
 pub mod Guests
 pub mod Names
+pub mod Held

@@ -17,7 +17,7 @@ use Rattle.format.proofs.Tests.{untrue, not-both}
 use Rattle.rules.specs.Rule.{chosen}
 use Rattle.rules.proofs.Labels.{chosen-passes, passes-chosen}
 use Rattle.program.specs.Program.{inClass, outsideClass, namesOf}
-use Rattle.program.proofs.File.{name, reading}
+use Rattle.program.proofs.File.{name, profile, reading}
 
 -- name 4 is of class 1, name 9 of classes 1 and 3, name 31 of classes 3 and 7
 abbrev file : List (List ℕ)
@@ -37,6 +37,12 @@ pub outside-names : map (namesOf (reading file .sheet)) (136 ∷ 137 ∷ 139 ∷
     ∷ []
 unfolding reading namesOf chosen
 outside-names = refl
+
+-- a profile holds the guest, and no key of the host means another name for it (request 04)
+pub names-not-held :
+    map (namesOf (reading (profile 2 ∷ file) .sheet)) (4 ∷ 128 ∷ 129 ∷ 131 ∷ 137 ∷ []) ≡ map (namesOf (reading file .sheet)) (4 ∷ 128 ∷ 129 ∷ 131 ∷ 137 ∷ [])
+unfolding reading namesOf chosen
+names-not-held = refl
 
 outside-chosen : (s : Sheet) (c n : ℕ) → n < 32 → List·Memᴰ n (chosen (outsideClass s c) 32) ↔ (List·Memᴰ n (chosen (inClass s c) 32) → ⊥)
 outside-chosen s c n h = (

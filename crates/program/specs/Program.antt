@@ -9,13 +9,15 @@ use Rattle.layout.specs.Key.{inside, outside}
 use Rattle.format.specs.Sheet.{Sheet, typeOf}
 use Rattle.format.specs.Records.{Record}
 use Rattle.format.specs.Reading.{Reading}
-use Rattle.program.specs.Statement.{Statement, load, store, makeFunction, call, new, return, throw, catch, bag, statementsOf}
+use Rattle.program.specs.Statement.{Statement, load, store, make, makeFunction, call, new, return, throw, catch, bag, statementsOf}
 
--- a guest: the label of whatever it makes, the variable that is its bag, the key it may use, and the labels forbidden to it
+-- a guest: the label of whatever it makes, the variable that is its bag, the key it may use, whether functions that it makes have a prototype property,
+-- and the labels forbidden to it
 pub record Guest : Type 0 where
   pub label : ℕ
   pub bag : ℕ
   pub key : ℕ
+  pub prototyped : Bool
   pub forbidden : ℕ
 
 pub record Program : Type 0 where
@@ -27,13 +29,17 @@ pub record Program : Type 0 where
 abbrev pub noRecord : ℕ
 noRecord = 65535
 
+-- how a guest makes a function. Without a prototype property that is `make` (kind 19) of its label: an object of label 3 is a function however it was made
+abbrev pub functionMade : Guest → Statement
+functionMade g = cond (g .prototyped) (makeFunction (g .label) (g .bag) (g .label) (g .label)) (make (g .label) (g .bag) (g .label))
+
 -- "The guest is scope 3 with variable 1 in every variable field, w, l, q = 3 and key 128: make function, load, store, call, new, return,
 -- throw, catch"
 unfoldable pub guestStatements : Guest → List Statement
 guestStatements g =
     let b = g .bag in
     let l = g .label in
-    makeFunction l b l l
+    functionMade g
     ∷ load l b b (g .key) l
     ∷ store l b (g .key) b
     ∷ call l b b b (replicate 6 b)
@@ -57,20 +63,6 @@ unfolding statementsOf
 hostStatements [] = []
 hostStatements (r ∷ rs) = placed (r .0) (statementsOf (r .1)) ++ hostStatements rs
 
--- "3 whatever the guest makes", "variable 1 is the guest's bag"
-abbrev pub guestsOf : Sheet → List Guest
-guestsOf s = record { label = 3; bag = bag; key = inside; forbidden = s .forbidden } ∷ []
-
--- the program of what was read
-unfoldable pub programOf : Reading → Program
-unfolding hostStatements
-programOf d = record { sheet = d .sheet; host = hostStatements (d .records); guests = guestsOf (d .sheet) }
-
--- every statement, the guests' first
-unfoldable pub statements : Program → List (ℕ × Statement)
-unfolding guestsStatements
-statements p = guestsStatements (p .guests) ++ p .host
-
 -- ---- what the declarations say
 
 -- "Without a record the mask is 1"
@@ -92,6 +84,38 @@ namesOf s key =
     cond (ltb key inside) (key ∷ [])
     (cond (ltb key outside) (chosen (inClass s (key - inside)) 32)
     (chosen (outsideClass s (key - outside)) 32))
+
+-- ---- what the file says as a whole
+
+-- "New kind 9, body c (0 to 7)" (request 04): the class of names that guests are held to. Without the record it is class 0, that of "key 128": "Class 0
+-- holds every name"
+abbrev pub guestClass : Sheet → ℕ
+guestClass s = cond (ltb (s .profile) 8) (s .profile) 0
+
+-- "3 whatever the guest makes", "variable 1 is the guest's bag"; "the guest's load and store use key 128 + c" (request 04)
+abbrev pub guestThree : Sheet → Guest
+guestThree s = record {
+  label = 3;
+  bag = bag;
+  key = inside + guestClass s;
+  prototyped = inClass s (guestClass s) 3;  -- "the prototype property of guest functions is written only if name 3 is in class c" (request 04)
+  forbidden = s .forbidden;
+}
+
+abbrev pub guestsOf : Sheet → List Guest
+guestsOf s = guestThree s ∷ []
+
+-- the program of what was read
+unfoldable pub programOf : Reading → Program
+unfolding hostStatements
+programOf d = record { sheet = d .sheet; host = hostStatements (d .records); guests = guestsOf (d .sheet) }
+
+-- every statement, the guests' first
+unfoldable pub statements : Program → List (ℕ × Statement)
+unfolding guestsStatements
+statements p = guestsStatements (p .guests) ++ p .host
+
+-- ---- functions
 
 abbrev pub isFunction : Sheet → ℕ → Bool
 isFunction s l = eqb (typeOf s l) 2

@@ -14,9 +14,6 @@ pub struct Reading {
     pub position: usize,
 }
 
-// The kinds below this one declare something, and the sheet takes their records; the others leave it as it is, and it is not copied for them.
-const GRANT: u8 = 6;
-
 // The records in order.
 fn read_records(file: &[u8], wide: bool) -> Reading
     ensures { λ r. ⌜ sheetOf wide (r .sheet) ≡ readFrom (labels wide) (start (labels wide)) 0 (now (file .entry)) .sheet ⌝ }
@@ -58,7 +55,7 @@ fn read_records(file: &[u8], wide: bool) -> Reading
             }
             j += 1;
         }
-        if kind < GRANT {
+        if sheet::declares(kind) {
             let taken = sheet.take(wide, kind, body);
             let no = taken.refusal;
             if no != 0 {

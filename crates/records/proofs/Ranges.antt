@@ -8,7 +8,7 @@ use native.Mathlib.Omega.{arith}
 use lib.ListN.{length, getD}
 use lib.Dec.{eqb, leb, ltb}
 use borrow.Author.Tests.{eqb-true, ltb-true}
-use Rattle.layout.specs.Layout.{Class, name, mask, newLabel, type, flag, anyLabel, hostLabel, functionLabel, plainLabel, dataLabel, scope, newVariable, variable, declaredVariable, globalVariable, variableName, key, fieldsOf}
+use Rattle.layout.specs.Layout.{Class, name, mask, newLabel, type, flag, anyLabel, hostLabel, functionLabel, plainLabel, dataLabel, scope, newVariable, variable, declaredVariable, globalVariable, variableName, nameClass, key, fieldsOf}
 use Rattle.format.specs.Sheet.{Sheet, typeOf, declared}
 use Rattle.format.specs.Fields.{good, Fits}
 use Rattle.format.proofs.Fields.{fits-length, fits-good}
@@ -46,6 +46,7 @@ module _ (L : ℕ) (s : Sheet) (z : Sized L s) where
     range-good declaredVariable b e = tt
     range-good globalVariable b e = tt
     range-good variableName b e = λ n. ⊎-elim (λ p. absurd (n (eqb-true b 255 p))) (λ p. ltb-true b 32 p) (or-true (eqb b 255) (ltb b 32) e)
+    range-good nameClass b e = tt
     range-good key b e = e
 
 ranged : (L : ℕ) (cs : List Class) (b : List ℕ) (j : ℕ) → ((i : ℕ) → i < length cs → Range L (getD cs i name) (getD b (j + i) 0)) → Ranged L cs b j

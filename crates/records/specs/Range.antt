@@ -5,7 +5,7 @@ use mathlib.Core.List.{List, [], _∷_}
 use Prim.Native.Nat.{ℕ, suc, _<_}
 use lib.ListN.{length, getD}
 use Rattle.layout.specs.Key.{Key}
-use Rattle.layout.specs.Layout.{Class, name, mask, newLabel, type, flag, anyLabel, hostLabel, functionLabel, plainLabel, dataLabel, scope, newVariable, variable, declaredVariable, globalVariable, variableName, key, fieldsOf, bodyLength}
+use Rattle.layout.specs.Layout.{Class, name, mask, newLabel, type, flag, anyLabel, hostLabel, functionLabel, plainLabel, dataLabel, scope, newVariable, variable, declaredVariable, globalVariable, variableName, nameClass, key, fieldsOf, bodyLength}
 
 abbrev pub Range : ℕ → Class → ℕ → Type 0
 Range L name b = b < 32
@@ -24,6 +24,7 @@ Range L variable b = Unit {0}
 Range L declaredVariable b = Unit {0}
 Range L globalVariable b = Unit {0}
 Range L variableName b = (b ≡ 255 → ⊥) → b < 32
+Range L nameClass b = Unit {0}
 Range L key b = Key b
 
 -- the bytes from the j-th on are in the range of their classes

@@ -50,6 +50,7 @@ pub begun : (wide : Bool) (none : ℕ) → none ≡ 0
       owners = format.start 256 .owners;
       names = format.start 256 .names;
       forbidden = none;
+      profile = format.start 256 .profile;
     })
     (format.start (labels wide))
 unfolding format.start

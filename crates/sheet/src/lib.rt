@@ -13,7 +13,7 @@ ghost use Rattle.format.specs.Sheet.{start};
 ghost use Rattle.format.specs.Fields.{Fits};
 ghost use Rattle.format.specs.Records.{wholeRefusal};
 ghost use Rattle.format.specs.Reading.{lacking};
-ghost use Rattle.sheet.specs.View.{sheetOf, handedBack};
+ghost use Rattle.sheet.specs.View.{sheetOf, handedBack, declaring};
 
 const LABELS: usize = 256;
 
@@ -44,6 +44,8 @@ pub struct Sheet {
     pub names: [u8; VARIABLES],
     // the forbidden labels
     pub forbidden: Set,
+    // the class of names that guests are held to, 255 for none
+    pub profile: u8,
 }
 
 // The next sheet, or the sheet as it was and the number of the refusal; 0 is ok.
@@ -77,7 +79,21 @@ pub fn fresh(wide: bool) -> Sheet
         owners: [1u8; VARIABLES],
         names: [255u8; VARIABLES],
         forbidden: sets::none(wide),
+        profile: 255,
     }
+}
+
+// The first kind of record, behind those that declare names, labels and variables, that says something to the rules.
+const GRANT: u8 = 6;
+
+// The kind of the record that holds guests to a class of names.
+const PROFILE: u8 = 9;
+
+// Whether records of this kind declare something. The others leave the sheet as it is, and it need not be copied for them.
+pub fn declares(kind: u8) -> bool
+    ensures { λ r. ⌜ r ≡ declaring kind ⌝ }
+{
+    fields::either(kind < GRANT, kind == PROFILE)
 }
 
 // The formals with the seven variables of function l. (Behind a reference an array does not tell its length, so the caller does.)
@@ -199,7 +215,26 @@ impl Sheet {
         }
     }
 
-    // One record, whose fields are good: kinds 1 to 5 declare something, any other leaves the sheet as it is.
+    // Kind 9: c.
+    fn take_profile(mut self, wide: bool, body: &[u8]) -> Taken
+        requires { ⌜ length (now body) ≡ 1 ⌝ }
+        ensures { λ r. ⌜ r .refusal ≡ wholeRefusal (sheetOf wide self) 9 (now (body .entry)) ⌝ }
+        ensures { λ r. ⌜ sheetOf wide (r .sheet) ≡ handedBack (sheetOf wide self) 9 (now (body .entry)) ⌝ }
+    {
+        if self.profile != 255 {
+            return Taken {
+                sheet: self,
+                refusal: 6,
+            };
+        }
+        self.profile = body[0];
+        Taken {
+            sheet: self,
+            refusal: 0,
+        }
+    }
+
+    // One record, whose fields are good: kinds 1 to 5 and 9 declare something, any other leaves the sheet as it is.
     pub fn take(self, wide: bool, kind: u8, body: &[u8]) -> Taken
         requires { ⌜ Fits (labels wide) (sheetOf wide self) (fieldsOf kind) (now body) ⌝ }
         ensures { λ r. ⌜ r .refusal ≡ wholeRefusal (sheetOf wide self) kind (now (body .entry)) ⌝ }
@@ -211,6 +246,7 @@ impl Sheet {
             3 => self.take_forbid(wide, body),
             4 => self.take_function(wide, body),
             5 => self.take_variable(wide, body),
+            9 => self.take_profile(wide, body),
             _ => Taken {
                 sheet: self,
                 refusal: 0,

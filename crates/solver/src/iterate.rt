@@ -30,12 +30,13 @@ pub fn iterate<'a>(
     flags: &'a [u8; 256],
     masks: &'a [u8; 32],
     formals: &'a [u8; 1792],
+    profile: u8,
 ) -> bool
-    requires { ⌜ Lent wide o (length (now t)) × Readable (labels wide) (now file) × Arrays wide (now file) (now types) (now flags) (now masks) (now formals) × (o ≡ 0 → tableAt wide 0 (now t) ≡ emptyTable (labels wide)) ⌝ }
+    requires { ⌜ Lent wide o (length (now t)) × Readable (labels wide) (now file) × Arrays wide (now file) (now types) (now flags) (now masks) (now formals) profile × (o ≡ 0 → tableAt wide 0 (now t) ≡ emptyTable (labels wide)) ⌝ }
     ensures { λ grew. ⌜ Iterated wide o (now (file .entry)) (now (t .entry)) (now (t .exit)) grew ⌝ }
 {
-    let mut host = [0u64; 16];
-    laying::lay(wide, types, flags, masks, &mut host);
+    let mut host = [0u64; 17];
+    laying::lay(wide, types, flags, masks, profile, &mut host);
     let mut first = [0u64; 256];
     let mut second = [0u64; 256];
     let mut third = [0u64; 256];

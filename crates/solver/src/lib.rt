@@ -21,10 +21,11 @@ pub fn solve<'a>(
     flags: &'a [u8; 256],
     masks: &'a [u8; 32],
     formals: &'a [u8; 1792],
+    profile: u8,
 )
-    requires { ⌜ (wordCount wide ≤ length (now t)) × Readable (labels wide) (now file) × Arrays wide (now file) (now types) (now flags) (now masks) (now formals) ⌝ }
+    requires { ⌜ (wordCount wide ≤ length (now t)) × Readable (labels wide) (now file) × Arrays wide (now file) (now types) (now flags) (now masks) (now formals) profile ⌝ }
     ensures { λ _. ⌜ Solved wide (now (file .entry)) (now (t .entry)) (now (t .exit)) ⌝ }
 {
     whole::clear(t, wide);
-    iterate(t, 0, file, wide, types, flags, masks, formals);
+    iterate(t, 0, file, wide, types, flags, masks, formals, profile);
 }

@@ -17,7 +17,8 @@ use Rattle.format.proofs.Fields.{fits-good}
 use Rattle.format.proofs.Effect.{not-equal}
 use Rattle.format.proofs.Ready.{Ready}
 use Rattle.program.specs.Statement as say
-use Rattle.program.specs.Program.{Program, Guest, guestsOf, guestStatements, guestsStatements, hostStatements, statements, placed, noRecord}
+use Rattle.program.specs.Program.{Program, Guest, guestThree, guestsOf, guestStatements, guestsStatements, hostStatements, statements, placed, noRecord}
+use Rattle.program.proofs.Held.{made-either}
 use Rattle.machine.specs.Variable.{bag, named, local, isBag, placeOf}
 use Rattle.soundness.proofs.States.{Declared}
 use Rattle.soundness.proofs.Setting.{Sensible}
@@ -172,7 +173,7 @@ module _ (L : ℕ) (s : Sheet) (ps : List (ℕ × Record)) (ready : Ready L s ps
   guest-sensible g i a =
       let three : Declared p 3 = start-declared 3 (omega arith) in
       subst (λ (z : Guest). List·Memᴰ a (guestStatements z) → Sensible p a) (sym (List·Memᴰ·eq-of-singleton i))
-      (either a _ _ (three, three)
+      (either a _ _ (made-either (Sensible p) (guestThree s) (three, three) three)
       (either a _ _ three
       (either a _ _ tt
       (either a _ _ tt

@@ -9,6 +9,7 @@ use Rattle.format.proofs.Placed.{later}
 use Rattle.program.specs.Statement as say
 use Rattle.program.specs.Statement.{statementsOf}
 use Rattle.program.specs.Program.{Program, placed, guestsStatements, hostStatements, guestsOf, programOf, statements}
+use Rattle.machine.proofs.laws.Alike.{Alike, alike}
 use Rattle.toplevel.specs.Silent.{topReturn}
 use Rattle.toplevel.proofs.Read.{Read}
 
@@ -23,12 +24,12 @@ bare-placed at [] = refl
 bare-placed at (s ∷ ss) = ap (λ (rest : List say.Statement). s ∷ rest) (bare-placed at ss)
 
 -- the statements of records, without their positions
-unfoldable said : List (ℕ × Record) → List say.Statement
+unfoldable pub said : List (ℕ × Record) → List say.Statement
 unfolding statementsOf
 said [] = []
 said (r ∷ rs) = statementsOf (r .1) ++ said rs
 
-bare-host : (rs : List (ℕ × Record)) → bare (hostStatements rs) ≡ said rs
+pub bare-host : (rs : List (ℕ × Record)) → bare (hostStatements rs) ≡ said rs
 unfolding hostStatements said
 bare-host [] = refl
 bare-host (r ∷ rs) =
@@ -50,6 +51,10 @@ said-later n (r ∷ rs) = ap (λ (ss : List say.Statement). statementsOf (r .1) 
 -- a program with other statements of the host
 abbrev pub withHost : Program → List (ℕ × say.Statement) → Program
 withHost q h = record { sheet = q .sheet; host = h; guests = q .guests }
+
+-- the machine sees the same of both
+pub host-alike : (q : Program) (h : List (ℕ × say.Statement)) → Alike (withHost q h) q
+host-alike q h = alike (q .sheet) (q .sheet .profile) h (q .host) (q .guests) (q .guests) (λ v. refl) (λ l. refl) refl
 
 -- the host's statements h are those of q, with a return at top level among them
 pub record Among (q : Program) (h : List (ℕ × say.Statement)) : Type 0 where

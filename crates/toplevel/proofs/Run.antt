@@ -15,14 +15,14 @@ use Rattle.program.specs.Statement as say
 use Rattle.program.specs.Program.{Program, noRecord, statements}
 use Rattle.machine.specs.State.{State, frameAt}
 use Rattle.machine.specs.Step.{Choice, Move, act, hand, scopeOf, inScope, perform, statementAt, step, run}
+use Rattle.machine.proofs.laws.Alike.{Alike, perform-same}
 use Rattle.machine.proofs.laws.Grounded.{Grounded, after-step, top-return-idle}
-use Rattle.toplevel.proofs.Bare.{bare, withHost, Among, earlier, bare-with, bare-without}
-use Rattle.toplevel.proofs.Steps.{perform-same}
+use Rattle.toplevel.proofs.Bare.{bare, withHost, host-alike, Among, earlier, bare-with, bare-without}
 
 -- ---- steps
 
 -- no statement: what stands beyond the last place
-abbrev beyond : say.Statement
+abbrev pub beyond : say.Statement
 beyond = say.named 0 0
 
 -- the choice, of another statement
@@ -41,7 +41,7 @@ choosing j c =
     }
 
 -- statement i of the list, in the frame of the choice
-abbrev stepBy : Program → List say.Statement → ℕ → Choice → State → State
+abbrev pub stepBy : Program → List say.Statement → ℕ → Choice → State → State
 stepBy q ss i c s =
     cond (ltb i (length ss) && (ltb (c .frame) (length (s .frames)) && inScope (scopeOf (getD ss i beyond)) (frameAt s (c .frame) .scope)))
     (perform q c s (c .frame) (getD ss i beyond)) s
@@ -127,8 +127,12 @@ module _ (xs ys : List say.Statement) (r : say.Statement) where
 statement-bare : (q : Program) (i : ℕ) → statementAt q i .1 ≡ getD (bare (statements q)) i beyond
 statement-bare q i = sym (List·getD-map (λ (x : ℕ × say.Statement). x .1) (statements q) i (noRecord, beyond))
 
-step-bare : (q : Program) (c : Choice) (s : State) → step q (act c) s ≡ stepBy q (bare (statements q)) (c .statement) c s
+pub step-bare : (q : Program) (c : Choice) (s : State) → step q (act c) s ≡ stepBy q (bare (statements q)) (c .statement) c s
 step-bare q c s = rw (statement-bare q (c .statement), ← length-map (statements q) (λ (x : ℕ × say.Statement). x .1))
+
+-- the same statements do the same in programs that the machine sees alike
+pub step-alike : (p q : Program) → Alike p q → (ss : List say.Statement) (i : ℕ) (c : Choice) (s : State) → stepBy p ss i c s ≡ stepBy q ss i c s
+step-alike p q a ss i c s = rw (perform-same p q a c s (c .frame) (getD ss i beyond))
 
 -- a move of q that does from this state what m does of p
 abbrev Answered : Program → Program → Move → State → Type 0
@@ -141,14 +145,10 @@ module _ (q : Program) (h : List (ℕ × say.Statement)) (a : Among q h) where
   abbrev top : say.Statement
   top = say.return 0 (a .value)
 
-  -- whatever else the host says
-  step-host : (ss : List say.Statement) (i : ℕ) (c : Choice) (s : State) → stepBy with-it ss i c s ≡ stepBy q ss i c s
-  step-host ss i c s = rw (perform-same q h c s (c .frame) (getD ss i beyond))
-
   step-with : (c : Choice) (s : State) → step with-it (act c) s ≡ stepBy q (earlier q h a ++ (top ∷ a .back)) (c .statement) c s
   step-with c s =
       step-bare with-it c s
-      ∙ step-host (bare (statements with-it)) (c .statement) c s
+      ∙ step-alike with-it q (host-alike q h) (bare (statements with-it)) (c .statement) c s
       ∙ ap (λ (ss : List say.Statement). stepBy q ss (c .statement) c s) (bare-with q h a)
 
   step-without : (c : Choice) (s : State) → step q (act c) s ≡ stepBy q (earlier q h a ++ a .back) (c .statement) c s

@@ -48,7 +48,7 @@ module _ (L : ℕ) (q : Program) (h : List (ℕ × say.Statement)) (a : Among q 
   checked-same t = rw (gap-same q h a plain L (cleaned L (q .sheet) t))
 
 -- what both operations refuse, they refuse of both files
-admitted-same : {A : Type 0} (L rows : ℕ) (d e : Reading) (refuse : ℕ → ℕ → A) (x y : A) → e .refusal ≡ d .refusal → (d .refusal ≡ 0 → x ≡ y)
+pub admitted-same : {A : Type 0} (L rows : ℕ) (d e : Reading) (refuse : ℕ → ℕ → A) (x y : A) → e .refusal ≡ d .refusal → (d .refusal ≡ 0 → x ≡ y)
     → ((d .refusal ≡ 0 → ⊥) → refuse (d .refusal) (e .position) ≡ refuse (d .refusal) (d .position))
     → admitted L rows e refuse x ≡ admitted L rows d refuse y
 admitted-same L rows d e refuse x y r f g = rw r (go (ltb rows (rowCount L)) (ℕ-discrete (d .refusal) 0))

@@ -20,11 +20,11 @@ use Rattle.toplevel.proofs.Bare.{bare, withHost, Among, earlier, bare-w
 
 -- ---- what functions return, positions aside
 
-unfoldable returnsAmong : ℕ → List say.Statement → List ℕ
+unfoldable pub returnsAmong : ℕ → List say.Statement → List ℕ
 returnsAmong f [] = []
 returnsAmong f (s ∷ ss) = returnedBy f s ++ returnsAmong f ss
 
-returns-bare : (f : ℕ) (ss : List (ℕ × say.Statement)) → returnsIn f ss ≡ returnsAmong f (bare ss)
+pub returns-bare : (f : ℕ) (ss : List (ℕ × say.Statement)) → returnsIn f ss ≡ returnsAmong f (bare ss)
 unfolding returnsIn returnsAmong
 returns-bare f [] = refl
 returns-bare f (s ∷ ss) = ap (λ (vs : List ℕ). returnedBy f (s .1) ++ vs) (returns-bare f ss)
@@ -41,6 +41,14 @@ every-bare : (g : say.Statement → Rule) (ss : List (ℕ × say.Statement))
     → every (map (λ (r : ℕ × Rule). r .1) (map (λ (s : ℕ × say.Statement). (s .0, g (s .1))) ss)) ≡ every (map g (bare ss))
 every-bare g [] = refl
 every-bare g (s ∷ ss) = ap (λ (r : Rule). g (s .1) also r) (every-bare g ss)
+
+-- the chains, and behind them the rules of the statements
+abbrev pub chained : ℕ → Program → Rule → Rule
+chained L p r = over (declaredLabels L (p .sheet)) (chainRule (p .sheet)) also guestChains (p .guests) also r
+
+pub rules-bare : (L : ℕ) (p : Program) → rules L p ≡ chained L p (every (map (ruleOf p) (bare (statements p))))
+unfolding rules
+rules-bare L p = ap (chained L p) (every-bare (ruleOf p) (statements p))
 
 -- ---- the two programs
 
@@ -67,35 +75,31 @@ module _ (q : Program) (h : List (ℕ × say.Statement)) (a : Among q h) (plain 
         returns-same = returns-same;
       }
 
-  -- the chains, and the rules of the statements
-  chained : ℕ → Rule → Rule
-  chained L r = over (declaredLabels L (q .sheet)) (chainRule (q .sheet)) also guestChains (q .guests) also r
-
   before : List Rule
   before = map (ruleOf q) (earlier q h a)
 
   behind : List Rule
   behind = map (ruleOf q) (a .back)
 
-  rules-without : (L : ℕ) → rules L q ≡ chained L (every (before ++ behind))
-  unfolding rules chained before behind
+  rules-without : (L : ℕ) → rules L q ≡ chained L q (every (before ++ behind))
+  unfolding before behind
   rules-without L =
-      ap (chained L)
-      (every-bare (ruleOf q) (statements q)
-      ∙ ap (λ (ss : List say.Statement). every (map (ruleOf q) ss)) (bare-without q h a)
+      rules-bare L q
+      ∙ ap (chained L q)
+      (ap (λ (ss : List say.Statement). every (map (ruleOf q) ss)) (bare-without q h a)
       ∙ ap every (map-append (ruleOf q) (earlier q h a) (a .back)))
 
-  rules-with : (L : ℕ) → rules L p ≡ chained L (every (before ++ (none ∷ behind)))
-  unfolding rules chained before behind
+  rules-with : (L : ℕ) → rules L p ≡ chained L q (every (before ++ (none ∷ behind)))
+  unfolding before behind
   rules-with L =
-      ap (chained L)
-      (every-bare (ruleOf p) (statements p)
-      ∙ ap (λ (g : say.Statement → Rule). every (map g (bare (statements p)))) (fun-ext (rule-alike p q alike))
+      rules-bare L p
+      ∙ ap (chained L q)
+      (ap (λ (g : say.Statement → Rule). every (map g (bare (statements p)))) (fun-ext (rule-alike p q alike))
       ∙ ap (λ (ss : List say.Statement). every (map (ruleOf q) ss)) (bare-with q h a)
       ∙ ap every (map-append (ruleOf q) (earlier q h a) (say.return 0 (a .value) ∷ a .back)))
 
   round-same : (L : ℕ) (t : Table) → round L (rules L p) t ≡ round L (rules L q) t
-  unfolding round fire chained
+  unfolding round fire
   round-same L t =
       ap (λ (r : Rule). round L r t) (rules-with L) ∙ fire-none L t before behind _ ∙ sym (ap (λ (r : Rule). round L r t) (rules-without L))
 
@@ -104,6 +108,6 @@ module _ (q : Program) (h : List (ℕ × say.Statement)) (a : Among q h) (plain 
   least-same L = settle-same L (rules L p) (rules L q) (round-same L) (enoughRounds L) (emptyTable L)
 
   pub gap-same : (L : ℕ) (t : Table) → gap L t (rules L p) ≡ gap L t (rules L q)
-  unfolding gap gapBelow chained
+  unfolding gap gapBelow
   gap-same L t =
       ap (gap L t) (rules-with L) ∙ gap-none L t before behind _ ∙ sym (ap (gap L t) (rules-without L))

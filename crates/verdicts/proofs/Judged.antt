@@ -7,13 +7,12 @@ use native.Mathlib.Decide.{decLt, ℕ-discrete}
 use native.Mathlib.Omega.{arith}
 use lib.Count.{trailingZeros}
 use borrow.Author.Tests.{eq-eqb, ne-eqb}
-use Rattle.layout.specs.Key.{inside}
 use Rattle.words.proofs.Bits.{On, empty-off}
 use Rattle.words.proofs.Laws.{Lowest, lowest}
 use Rattle.answer.specs.Outcome.{confined, leaks}
 use Rattle.rules.specs.Table.{Table, facts}
 use Rattle.format.specs.Sheet.{Sheet}
-use Rattle.program.specs.Program.{Program, Guest, guestsOf, programOf}
+use Rattle.program.specs.Program.{Program, Guest, guestThree, guestsOf, programOf}
 use Rattle.analysis.specs.Verdict.{leastTable, heldForbidden}
 use Rattle.analysis.proofs.Held.{held-on, held-below}
 use Rattle.verdicts.specs.Verdict.{forbiddenHeld, holder, judged, programIn, Leaks, Confined}
@@ -59,13 +58,13 @@ guest-three L xs = refl
 pub none-forbidden : (s : Sheet) (t : Table) → forbiddenHeld t (guestsOf s) ≡ 0 → (l : ℕ) → ForbiddenHeld s t l → ⊥
 unfolding forbiddenHeld
 none-forbidden s t e l h =
-    empty-off l (subst (λ (w : ℕ). On w l) e (held-on t (record { label = 3; bag = 1; key = inside; forbidden = s .forbidden }) l .1 h))
+    empty-off l (subst (λ (w : ℕ). On w l) e (held-on t (guestThree s) l .1 h))
 
 pub lowest-forbidden : (L : ℕ) (s : Sheet) (t : Table) → s .forbidden < 2 ^ L → (forbiddenHeld t (guestsOf s) ≡ 0 → ⊥)
     → LowestForbidden s t (trailingZeros L (forbiddenHeld t (guestsOf s)))
 unfolding forbiddenHeld
 lowest-forbidden L s t below d =
-    let g : Guest = record { label = 3; bag = 1; key = inside; forbidden = s .forbidden } in
+    let g : Guest = guestThree s in
     let low = lowest L (heldForbidden t g) (held-below L t g below) (omega arith) in
     record { held = held-on t g (trailingZeros L (heldForbidden t g)) .0 (low .«in»); least = λ m h. first g low m (held-on t g m .1 h) }
   where

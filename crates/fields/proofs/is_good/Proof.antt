@@ -16,10 +16,10 @@ returns-10 : tie.Need-returns-10
 unfolding good
 returns-10 c = rw (c .before .before .before .before .match .keys10, c .both4 .ensures, c .before .either .ensures, c .before .before .type-of4 .ensures, c .before .before .before .type-of3 .ensures)
 
-returns-17 : tie.Need-returns-17
+returns-18 : tie.Need-returns-18
 unfolding good
-returns-17 c =
-    let m : 16 ≤ c .before .before .before .before .args .class = beyond 16 _ (c .before .match .rest) in
+returns-18 c =
+    let m : 17 ≤ c .before .before .before .before .args .class = beyond 17 _ (c .before .match .rest) in
     rw (class-rest _ m) (c .is-key .ensures)
 
 pub is-good-spec : {M : Type 1} → statement M
@@ -38,4 +38,4 @@ is-good-spec =
     (λ c. rw (c .before .match .keys12) (c .both5 .ensures))
     (λ c. rw (c .before .before .match .keys13, ← c .before .owner-of .ensures) (c .either3 .ensures))
     (λ c. rw (c .before .match .keys14, c .owner-of2 .ensures)) (λ c. rw (c .before .match .keys15, c .owner-of3 .ensures))
-    (λ c. rw (c .before .match .keys16) (c .either4 .ensures)) returns-17)
+    (λ c. rw (c .before .match .keys16) (c .either4 .ensures)) (λ c. rw (c .match .keys17)) returns-18)

@@ -10,7 +10,7 @@ use Rattle.laying.proofs.lay_names.Statement.{statement}
 use Rattle.laying.proofs.lay_names.Tie as tie
 
 abbrev Inv-loop : tie.InvT-loop
-Inv-loop masks host₀ c₀ host c = (c ≤ 8) × (length host ≡ 16) × Classes c masks host₀ host
+Inv-loop masks host₀ c₀ host c = (c ≤ 8) × (length host ≡ 17) × Classes c masks host₀ host
 
 abbrev μ-loop : tie.MeasureT-loop
 μ-loop masks host₀ c₀ host c = 8 - c
@@ -21,7 +21,7 @@ loop-again c =
     (search needs, search needs, classes-next (r .c) (c .class-names .result) (search needs) (r .inv .2) (c .class-names .ensures))
 
 returns : tie.Need-returns Inv-loop μ-loop
-returns c = let e : c .before .loop .c ≡ 8 = omega arith in rw e at (c .before .loop .inv .2)
+returns c = let e : c .before .loop .c ≡ 8 = omega arith in (rw e at (c .before .loop .inv .2), c .before .loop .inv .1)
 
 pub lay-names-spec : {M : Type 1} → statement M
 lay-names-spec =

@@ -31,8 +31,8 @@ agree-at w k (suc n) e j h = go (ℕ-discrete j n) (agree-at w k n (parts .1) j)
     go (yes q) rest = rw q (eqb-true (digit w n) (bodyLength (k + n)) (parts .0))
     go (no q) rest = rest (omega (arith, q))
 
-low-digit : (j : ℕ) → j < 16 → digit 0x231381320 j ≡ bodyLength j
-low-digit j h = let e : 0 + j ≡ j = omega arith in rw e at (agree-at 0x231381320 0 16 refl j h)
+low-digit : (j : ℕ) → j < 16 → digit 0x1231381320 j ≡ bodyLength j
+low-digit j h = let e : 0 + j ≡ j = omega arith in rw e at (agree-at 0x1231381320 0 16 refl j h)
 
 high-digit : (k : ℕ) → 16 ≤ k → k < 32 → digit 0x2222ba43453 (k - 16) ≡ bodyLength k
 high-digit k l h = let e : 16 + (k - 16) ≡ k = omega arith in rw e at (agree-at 0x2222ba43453 16 16 refl (k - 16) (omega arith))

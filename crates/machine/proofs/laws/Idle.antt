@@ -1,6 +1,6 @@
 -- Laws of what does nothing: whatever is chosen, the state stays as it is. Assumes nothing.
 use mathlib.Core.Path.{_≡_, refl}
-use mathlib.Core.List.{List}
+use mathlib.Core.List.{List, [], _∷_, List·Memᴰ, List·Memᴰ·head, List·Memᴰ·tail}
 use mathlib.Core.Bool.{Bool, true, false, cond}
 use Prim.Native.Nat.{ℕ}
 use borrow.Author.Tests.{ne-eqb}
@@ -11,7 +11,7 @@ use Rattle.machine.specs.Property.{storeTo}
 use Rattle.machine.specs.Call.{callOf, newOf}
 use Rattle.machine.specs.Step.{Choice, act, member, primNames, perform, statementAt, makesSense, step}
 use Rattle.machine.specs.Effect.{NoFunction, primitive-is-none, object-is-none, NoStore, into-primitive, into-built-in}
-use Rattle.machine.specs.Laws.{CallsNothing, BuildsNothing, PrimsNothing, StoresNothing, ReturnsNothing}
+use Rattle.machine.specs.Laws.{CallsNothing, BuildsNothing, PrimsNothing, StoresNothing, LoadsNoOther, StoresNoOther, ReturnsNothing}
 
 either : {s : State} (b : Bool) (s' : State) → s' ≡ s → cond b s' s ≡ s
 either true s' h = h
@@ -20,6 +20,11 @@ either false s' h = refl
 -- a statement that does nothing makes a step that does nothing
 idle : (p : Program) (s : State) (c : Choice) → perform p c s (c .frame) (statementAt p (c .statement) .1) ≡ s → step p (act c) s ≡ s
 idle p s c h = either (makesSense p c s) (perform p c s (c .frame) (statementAt p (c .statement) .1)) h
+
+-- what is not in a list is not found there
+no-member : (n : ℕ) (ns : List ℕ) → (List·Memᴰ n ns → ⊥) → member n ns ≡ false
+no-member n [] h = refl
+no-member n (m ∷ ns) h = rw (ne-eqb n m (λ e. h (List·Memᴰ·head e))) (no-member n ns (λ i. h (List·Memᴰ·tail i)))
 
 module _ (p : Program) (s : State) where
   no-call : {x : Value} (f y : ℕ) (byNew : Bool) (this : Value) (xs : List Value) → NoFunction p s x → callOf p s f y byNew x this xs ≡ s
@@ -46,6 +51,12 @@ module _ (p : Program) (s : State) (c : Choice) where
 
   pub store-on-primitive-or-built-in : StoresNothing p s c
   store-on-primitive-or-built-in k v key a e h = idle p s c (rw e (either (member (c .name) (namesOf (p .sheet) key)) _ (no-store p s _ _ _ h)))
+
+  pub load-of-no-name : LoadsNoOther p s c
+  load-of-no-name k y v key w e h = idle p s c (rw (e, no-member (c .name) (namesOf (p .sheet) key) h))
+
+  pub store-of-no-name : StoresNoOther p s c
+  store-of-no-name k v key a e h = idle p s c (rw (e, no-member (c .name) (namesOf (p .sheet) key) h))
 
   pub return-primitive-of-new : ReturnsNothing p s c
   return-primitive-of-new k v d e e' e'' n = idle p s c (rw (e, e', e'', n))

@@ -28,7 +28,8 @@ pub guests-say : (p : Program) → GuestsSay p
 unfolding guestStatements
 guests-say p g n =
     record {
-      makes-function = said p n (List·Memᴰ·head refl);
+      makes-function = λ e. said p n (List·Memᴰ·head (rw e));
+      makes-without = λ e. said p n (List·Memᴰ·head (rw e));
       loads = said p n (search (List·Memᴰ·head, List·Memᴰ·tail) depth 9);
       stores = said p n (search (List·Memᴰ·head, List·Memᴰ·tail) depth 9);
       calls = said p n (search (List·Memᴰ·head, List·Memᴰ·tail) depth 9);

@@ -64,7 +64,7 @@ returns-4 c =
     let a = test .before .before .before .before .before .args in
     let g = look .lowest-gap .ensures in
     let r = e .before .read .ensures in
-    let none = held-in (a .wide) _ (held .held .ensures) (ap (λ (s : Sheet). s .forbidden) (r .0)) in
+    let none = held-in (a .wide) _ (readFile (labels (a .wide)) (a .file .now) .sheet) (held .held .ensures) (ap (λ (s : Sheet). s .forbidden) (r .0)) in
     sym (
     check-clear (a .wide) (a .file .now) (a .table .now) (full test) (readable e) (omega (arith, g, held .before .before .if3 .left, rows .row-count .ensures .0))
     (sym none ∙ eqb-true _ _ (sym (c .before .is-empty .ensures) ∙ c .if4 .taken))
@@ -84,7 +84,7 @@ returns-5 c =
     let a = test .before .before .before .before .before .args in
     let g = look .lowest-gap .ensures in
     let r = e .before .read .ensures in
-    let some = held-in (a .wide) _ (held .held .ensures) (ap (λ (s : Sheet). s .forbidden) (r .0)) in
+    let some = held-in (a .wide) _ (readFile (labels (a .wide)) (a .file .now) .sheet) (held .held .ensures) (ap (λ (s : Sheet). s .forbidden) (r .0)) in
     ap (λ (l : ℕ). holds l 3) (c .lowest-label .ensures ∙ ap (trailingZeros (labels (a .wide))) some)
     ∙ sym (
     check-held (a .wide) (a .file .now) (a .table .now) (full test) (readable e) (omega (arith, g, held .before .before .if3 .left, rows .row-count .ensures .0))

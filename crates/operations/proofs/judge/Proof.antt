@@ -56,7 +56,7 @@ returns-3 c =
     let r = e .before .read .ensures in
     let full : wordCount (a .wide) ≤ length t = omega (arith, test .if1 .left, test .before .word-count .ensures .0) in
     let ok : readFile (labels (a .wide)) xs .refusal ≡ 0 = sym (r .1 .0) ∙ e .if2 .left in
-    let held = held-in (a .wide) _ (h .held .ensures) (ap (λ (z : Sheet). z .forbidden) (r .0)) in (
+    let held = held-in (a .wide) _ (readFile (labels (a .wide)) xs .sheet) (h .held .ensures) (ap (λ (z : Sheet). z .forbidden) (r .0)) in (
       c .judged .ensures
           ∙ ap₂ (judgment (labels (a .wide))) held (n .count .ensures .0)
           ∙ sym (judged-outcome (a .wide) xs t full ok _ (s .solve .ensures .least)),

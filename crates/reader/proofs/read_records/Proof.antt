@@ -13,7 +13,7 @@ use Rattle.layout.proofs.Table.{length-at, class-at, body-short, no-kind}
 use Rattle.format.specs.Sheet as format
 use Rattle.format.specs.Fields.{firstBad}
 use Rattle.format.specs.Records.{after, wholeRefusal}
-use Rattle.sheet.proofs.Bodies.{undeclaring}
+use Rattle.sheet.proofs.Bodies.{undeclared}
 use Rattle.fields.specs.Judging.{fieldRefusal}
 use Rattle.fields.proofs.Judged.{refusal-judging}
 use Rattle.sheet.specs.View.{sheetOf}
@@ -113,17 +113,17 @@ fields-all c =
 
 -- the record as a whole is not refused, and the sheet is the next one
 made : (c : tie.Joined6 Inv-fields μ-fields Inv-records μ-records) →
-    let b = c .before .before .before in
+    let b = c .before .before .before .before in
     (wholeRefusal (sheet-at b) (kind-at b) (body-at b) ≡ 0) × (sheetOf (wide-at b) (c .if6 .sheet) ≡ after (sheet-at b) (kind-at b) (body-at b))
 made c =
-    let b = c .before .before .before in
+    let b = c .before .before .before .before in
     let wide = wide-at b in
     ⊎-elim
     (λ w.
     let none = sym (w .1 .ensures .0) ∙ w .2 .left in
     (none, ap (sheetOf wide) (w .4) ∙ rw none at (w .1 .ensures .1)))
     (λ w.
-    let u = undeclaring (sheet-at b) (kind-at b) (body-at b) (λ z. omega arith) (λ z. omega arith) (λ z. omega arith) (λ z. omega arith) (λ z. omega arith) in
+    let u = undeclared (sheet-at b) (kind-at b) (body-at b) (sym (c .before .declares .ensures) ∙ w .0 .left) in
     (u .0, ap (sheetOf wide) (w .1) ∙ u .1))
     (c .if6 .came)
 
@@ -157,7 +157,7 @@ fields-again c =
 
 records-again : tie.Need-records-again Inv-fields μ-fields Inv-records μ-records
 records-again c =
-    let f = c .before in
+    let f = c .before .before in
     let b = f .before .before in
     let m = made c in
     (f .before .fields .inv .0 ∙ b .before .before .before .before .before .before .before .records .inv .0, next-within (here b .inside) (here b .room), rw (m .1) (here-next (here b) (fields-all f) (m .0)))
@@ -198,7 +198,7 @@ returns-5 c =
 
 returns-6 : tie.Need-returns-6 Inv-fields μ-fields Inv-records μ-records
 returns-6 c =
-    let f = c .before .before .before in
+    let f = c .before .before .before .before in
     let b = f .before .before in
     let a = here-bad-record (here b) (fields-all f) _ (sym (c .before .take .ensures .0)) (c .if7 .taken) in
     (a .sheet-same, (a .refusal-same, a .position-same))
@@ -210,5 +210,5 @@ read-records-spec =
     (λ c. search needs) (λ c. search needs) (λ c. search needs) (λ c. search needs) (λ c. search needs) (λ c. search needs)
     (λ c. search needs) (λ c. search needs) (λ c. search needs) (λ c. search needs) (λ c. search needs) (λ c. search needs)
     (λ c. (refl, search needs, refl)) array-read-field-refusal shared-slice-read-field-refusal field-refusal-requires
-    (λ c. search needs) (λ c. search needs) fields-again (λ c κs. search (needs, here-fits, here, fields-all)) (λ c. search needs)
+    (λ c. search needs) (λ c. search needs) fields-again (λ c κs. search needs) (λ c κs. search (needs, here-fits, here, fields-all)) (λ c. search needs)
     (λ c. search needs) (λ c. search needs) records-again returns returns-2 returns-3 returns-4 returns-5 returns-6)

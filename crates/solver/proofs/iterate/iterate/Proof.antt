@@ -21,11 +21,11 @@ use Rattle.solver.proofs.iterate.iterate.Statement.{statement}
 use Rattle.solver.proofs.iterate.iterate.Tie as tie
 
 abbrev Inv-loop : tie.InvT-loop
-Inv-loop t₀ o file wide types flags masks formals host first second third fourth keeps₀ again₀ passes₀ t keeps again passes =
+Inv-loop t₀ o file wide types flags masks formals profile host first second third fourth keeps₀ again₀ passes₀ t keeps again passes =
     Turned wide file t₀ t keeps again
 
 abbrev μ-loop : tie.MeasureT-loop
-μ-loop t₀ o file wide types flags masks formals host first second third fourth keeps₀ again₀ passes₀ t keeps again passes =
+μ-loop t₀ o file wide types flags masks formals profile host first second third fourth keeps₀ again₀ passes₀ t keeps again passes =
     left wide again t
 
 -- ---- places in the code: from the first pass back to where the arrays are made, from a search back to the loop

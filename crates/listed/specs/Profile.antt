@@ -1,0 +1,84 @@
+-- The verdicts on these files, computed. Assumes nothing.
+use mathlib.Core.Path.{_≡_, refl}
+use mathlib.Core.List.{[], _∷_}
+use Rattle.answer.specs.Outcome.{confined, leaks, refused}
+use Rattle.listed.specs.Listed.{verdictOf}
+use Rattle.listed.specs.ProfileFiles.{only, field, listener, constructor}
+
+-- held to class 1, which has no name, the guest keeps its one object and no property; where name 3 is of class 1, by a record before or behind, its
+-- functions have their prototype property; class 0 has every name
+pub no-name-line : verdictOf (only (9 ∷ 1 ∷ [])) ≡ confined 13
+unfolding verdictOf only
+no-name-line = refl
+
+pub prototype-name-line : verdictOf (only (9 ∷ 1 ∷ 1 ∷ 3 ∷ 3 ∷ [])) ≡ confined 14
+unfolding verdictOf only
+prototype-name-line = refl
+
+pub prototype-name-before-line : verdictOf (only (1 ∷ 3 ∷ 3 ∷ 9 ∷ 1 ∷ [])) ≡ confined 14
+unfolding verdictOf only
+prototype-name-before-line = refl
+
+pub other-name-line : verdictOf (only (9 ∷ 1 ∷ 1 ∷ 4 ∷ 3 ∷ [])) ≡ confined 14
+unfolding verdictOf only
+other-name-line = refl
+
+pub every-name-line : verdictOf (only (9 ∷ 0 ∷ [])) ≡ confined 45
+unfolding verdictOf only
+every-name-line = refl
+
+pub guest-forbidden-line : verdictOf (only (9 ∷ 7 ∷ 3 ∷ 3 ∷ [])) ≡ leaks 3 3 13
+unfolding verdictOf only
+guest-forbidden-line = refl
+
+-- "A c above 7 is refused 5, a repeat 6."
+pub no-class-line : verdictOf (only (9 ∷ 8 ∷ [])) ≡ refused 5 0
+unfolding verdictOf only
+no-class-line = refl
+
+pub no-class-repeated-line : verdictOf (only (9 ∷ 0 ∷ 9 ∷ 9 ∷ [])) ≡ refused 5 2
+unfolding verdictOf only
+no-class-repeated-line = refl
+
+pub repeated-line : verdictOf (only (9 ∷ 0 ∷ 9 ∷ 1 ∷ [])) ≡ refused 6 2
+unfolding verdictOf only
+repeated-line = refl
+
+-- "a verdict that knows it raises fewer alarms": the guest cannot load by a name that is not of its class
+pub field-line : verdictOf (field []) ≡ leaks 5 3 315
+unfolding verdictOf field
+field-line = refl
+
+pub field-held-line : verdictOf (field (9 ∷ 1 ∷ [])) ≡ confined 23
+unfolding verdictOf field
+field-held-line = refl
+
+pub field-named-line : verdictOf (field (9 ∷ 1 ∷ 1 ∷ 4 ∷ 3 ∷ [])) ≡ leaks 5 3 34
+unfolding verdictOf field
+field-named-line = refl
+
+pub field-other-class-line : verdictOf (field (9 ∷ 2 ∷ 1 ∷ 4 ∷ 3 ∷ [])) ≡ confined 23
+unfolding verdictOf field
+field-other-class-line = refl
+
+-- nor can it store by one
+pub listener-line : verdictOf (listener [] 4) ≡ leaks 5 3 327
+unfolding verdictOf listener
+listener-line = refl
+
+pub listener-held-line : verdictOf (listener (9 ∷ 1 ∷ []) 4) ≡ confined 27
+unfolding verdictOf listener
+listener-held-line = refl
+
+pub listener-named-line : verdictOf (listener (9 ∷ 1 ∷ 1 ∷ 4 ∷ 3 ∷ []) 4) ≡ leaks 5 3 46
+unfolding verdictOf listener
+listener-named-line = refl
+
+-- its new looks up name 3 all the same
+pub constructor-named-line : verdictOf (constructor (9 ∷ 1 ∷ 1 ∷ 4 ∷ 3 ∷ []) 4) ≡ leaks 5 3 52
+unfolding verdictOf constructor
+constructor-named-line = refl
+
+pub constructor-held-line : verdictOf (constructor (9 ∷ 1 ∷ 1 ∷ 4 ∷ 3 ∷ []) 9) ≡ confined 42
+unfolding verdictOf constructor
+constructor-held-line = refl

@@ -1,0 +1,1 @@
+// What it changes that guests are held to a class of names: definitions and theorems, no code.
