@@ -14,14 +14,15 @@ struct sheet {
     uint8_t function[256];
     uint16_t owner[256];
     uint8_t masked[NAMES];
+    uint8_t profile; /* there is one */
 };
 
-/* The kinds of document 01, with a letter for each byte of the body. */
+/* The kinds of document 01 and of request 04, with a letter for each byte of the body. */
 static const struct {
     uint8_t kind;
     const char *fields;
 } layout[] = {
-    {1, "Nm"},   {2, "Ltb"},   {3, "d"},   {4, "Fvvvvvvv"},    {5, "Vko"},          {6, "g"},   {7, "hnh"}, {8, "gh"}, {16, "kvv"}, {17, "kvvKp"},
+    {1, "Nm"},   {2, "Ltb"},   {3, "d"},   {4, "Fvvvvvvv"},    {5, "Vko"},          {6, "g"},   {7, "hnh"}, {8, "gh"}, {9, "c"}, {16, "kvv"}, {17, "kvvKp"},
     {18, "kvKv"}, {19, "kva"}, {20, "kvfp"}, {21, "kvvvvvvvvv"}, {22, "kvvxpvvvvvv"}, {23, "kv"}, {24, "kv"}, {25, "kv"}, {26, "kv"},
 };
 
@@ -54,6 +55,7 @@ static int good(const struct sheet *sheet, char field, unsigned before, unsigned
     case 'g': return sheet->owner[byte] == TOP;                                     /* a variable of the top level */
     case 'o': return byte == NO_NAME || (byte < NAMES && before == TOP);            /* a variable's name */
     case 'n': return byte < NAMES;                                                  /* a name */
+    case 'c': return byte < CLASSES && !sheet->profile;                             /* a class to hold the guest to */
     default: return byte < NAMES || (byte >= CLASS_KEYS && byte < KEYS_END);        /* a key */
     }
 }
@@ -78,6 +80,7 @@ static void declare(struct sheet *sheet, const uint8_t *record)
     case 2: sheet->type[record[1]] = record[2]; break;
     case 4: sheet->function[record[1]] = 1; break;
     case 5: sheet->owner[record[1]] = record[2]; break;
+    case 9: sheet->profile = 1; break;
     }
 }
 
@@ -96,7 +99,7 @@ size_t record_length(uint8_t kind)
 
 size_t repair(const uint8_t *bytes, size_t length, unsigned labels, int whole, uint8_t *file)
 {
-    struct sheet sheet = {labels, {PLAIN, PLAIN, PLAIN, FUNCTION, PLAIN}, {0}, {0}, {0}};
+    struct sheet sheet = {labels, {PLAIN, PLAIN, PLAIN, FUNCTION, PLAIN}, {0}, {0}, {0}, 0};
     for (unsigned v = 0; v < 256; v++)
         sheet.owner[v] = UNDECLARED;
     size_t written = 0;

@@ -24,7 +24,7 @@ static const struct {
 
 static const uint8_t confined[] = {2, 5, 1, 0, 3, 5, 5, 2, 0, 255, 8, 2, 5};
 static const uint8_t leaks[] = {2, 5, 1, 0, 3, 5, 5, 2, 0, 255, 8, 2, 5, 6, 2};
-static const uint8_t unknown_kind[] = {3, 3, 9};
+static const uint8_t unknown_kind[] = {3, 3, 10};
 static const uint8_t cut_short[] = {3, 3, 2, 5, 1};
 static const uint8_t bad_variable[] = {6, 1};
 static const uint8_t bad_label[] = {2, 4, 1, 0};
@@ -39,6 +39,13 @@ static const uint8_t outside_class_7[] = LOADED_UNDER(143);
 static const uint8_t bad_key[] = LOADED_UNDER(144);
 static const uint8_t top_return[] = {23, 0, 0};
 static const uint8_t top_return_of_undeclared[] = {23, 0, 9};
+/* Label 6 holds label 5, the forbidden one, under name 4, and the guest is granted it; then the guest is held to class c, of which name 4 may be. */
+#define HELD(...) {2, 5, 1, 0, 3, 5, 2, 6, 1, 0, 5, 2, 0, 255, 8, 2, 6, 7, 6, 4, 5, 6, 2, __VA_ARGS__}
+static const uint8_t held_to_every_name[] = HELD(9, 0);
+static const uint8_t held_to_class_1[] = HELD(9, 1);
+static const uint8_t held_to_class_1_with_name_4[] = HELD(9, 1, 1, 4, 3);
+static const uint8_t held_to_no_class[] = HELD(9, 8);
+static const uint8_t held_twice[] = HELD(9, 1, 9, 1);
 static const uint8_t declared_twice[] = {2, 5, 1, 0, 2, 5, 1, 0};
 static const uint8_t function_missing[] = {2, 5, 2, 0};
 static uint8_t longest[PEZVORAN_FILE_BYTES];
@@ -70,6 +77,11 @@ static const struct {
     {"bad key", bad_key, sizeof bad_key, PEZVORAN_REFUSED, PEZVORAN_BAD_VALUE, 28},
     {"return at the top level", top_return, sizeof top_return, PEZVORAN_CONFINED, 0, 45},
     {"the same of an undeclared variable", top_return_of_undeclared, sizeof top_return_of_undeclared, PEZVORAN_REFUSED, PEZVORAN_BAD_VARIABLE, 0},
+    {"a guest held to every name", held_to_every_name, sizeof held_to_every_name, PEZVORAN_LEAKS, 5, 314},
+    {"held to class 1", held_to_class_1, sizeof held_to_class_1, PEZVORAN_CONFINED, 0, 22},
+    {"held to class 1 with name 4", held_to_class_1_with_name_4, sizeof held_to_class_1_with_name_4, PEZVORAN_LEAKS, 5, 33},
+    {"held to no class", held_to_no_class, sizeof held_to_no_class, PEZVORAN_REFUSED, PEZVORAN_BAD_VALUE, 23},
+    {"held twice", held_twice, sizeof held_twice, PEZVORAN_REFUSED, PEZVORAN_DECLARED_TWICE, 25},
     {"declared twice", declared_twice, sizeof declared_twice, PEZVORAN_REFUSED, PEZVORAN_DECLARED_TWICE, 4},
     {"function missing", function_missing, sizeof function_missing, PEZVORAN_REFUSED, PEZVORAN_FUNCTION_MISSING, 4},
     {"longest", longest, sizeof longest, PEZVORAN_LEAKS, 3, 45},

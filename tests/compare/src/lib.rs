@@ -1,12 +1,18 @@
 //! What the comparisons share: an edition of the archive as the second implementation has it, and the second implementation's answers as the archive's.
 
-use pezvoran::{Answer, Refusal};
+use pezvoran::{verdict, Answer, Refusal, Table};
 use second::program::GUEST;
 use second::{check_in, verdict_in, Edition, Verdict};
 
 /// The same edition of the second implementation.
 pub fn edition<E: pezvoran::Edition>() -> Edition {
     Edition::BOTH.into_iter().find(|edition| edition.labels() == E::LABELS).expect("both have the same editions")
+}
+
+/// The archive's answer and the table that it leaves.
+pub fn judged<E: pezvoran::Edition>(file: &[u8]) -> (Answer, Vec<u64>) {
+    let mut table = Table::<E>::new();
+    (verdict(file, &mut table), table.words().to_vec())
 }
 
 fn refused(refusal: second::Refusal) -> Answer {

@@ -99,6 +99,13 @@ fn tables_of_files_with_returns_at_the_top_level_agree() {
 }
 
 #[test]
+fn tables_of_files_with_profiles_agree() {
+    for seen in [on_files::<Small>("profiles", 200, generate::profiles_in), on_files::<Large>("profiles", 30, generate::profiles_in)] {
+        assert!([0, 8, 10, 11].iter().all(|&number| seen[number] > 0));
+    }
+}
+
+#[test]
 fn tables_of_damaged_files_agree() {
     on_files::<Small>("damaged", 400, generate::damaged_in);
     on_files::<Large>("damaged", 150, generate::damaged_in);

@@ -1,7 +1,7 @@
 //! Every file in `examples`, and those that `examples/gallery` writes, print what their heads state, by the archive and by the second implementation; the
 //! bytes are made by `examples/bytes`. A file of the small edition prints the same in the large one.
 
-use compare::edition;
+use compare::{edition, judged};
 use pezvoran::{check, verdict, Answer, Edition, Large, Refusal, Small, Table};
 use second::machine::witnessed;
 use second::{read_in, report_in};
@@ -49,11 +49,6 @@ impl Example {
             judged::<Small>(&self.file)
         }
     }
-}
-
-fn judged<E: Edition>(file: &[u8]) -> (Answer, Vec<u64>) {
-    let mut table = Table::<E>::new();
-    (verdict(file, &mut table), table.words().to_vec())
 }
 
 fn folder() -> PathBuf {
@@ -155,7 +150,7 @@ fn walks_stay_within_the_table_of_each_example() {
     }
 }
 
-/// The leaks of `adsafe-leaks` and `gallery-leaks` take more steps in a row than random walks find, and the alarm of `wrapper-shared` is false.
+/// The leaks of `adsafe-leaks`, `adsafe-profile-leaks` and `gallery-leaks` take more steps in a row than random walks find, and the alarm of `wrapper-shared` is false.
 #[test]
 fn walks_come_to_hold_what_the_short_examples_leak() {
     let short = ["journal-leaks", "logger-leaks", "hidden-leaks", "module-leaks", "site-shared"];
@@ -186,6 +181,9 @@ fn one_changed_record_makes_a_confined_example_leak() {
         ("mint-confined", "23 17 26", "23 17 17"),                                // getDecr returns decr, not its box
         ("mint-confined", "17 18 29 28 8 32", "17 18 29 28 8 31"),                // src.getDecr and brand.seal share a wrapper
         ("adsafe-confined", "18 8 7 130 15", "18 8 7 128 15"),                    // lib takes every name
+        ("adsafe-profile-confined", "18 8 6 130 15", "18 8 6 128 15"),            // lib takes every name
+        ("adsafe-profile-confined", "9 2", "9 0"),                                // guests may name every property
+        ("adsafe-profile-confined", "1 8 1", "1 8 5"),                            // ___nodes___ is a safe name
         ("module-confined", "23 0 8", "23 7 8"),                                  // the return stands in note
         ("module-confined", "6 4", "6 8"),                                        // the guest is granted exports
         ("hidden-confined", "1 5 3", "1 5 1"),                                    // ___add___ is not on the list

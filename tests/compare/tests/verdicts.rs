@@ -1,5 +1,5 @@
-//! Verdict, label, count and every word of the table, on listed, random, structured, many-round, dense and damaged files, and on files with returns at the
-//! top level of everything the host has, against the second solver, in both editions.
+//! Verdict, label, count and every word of the table, on listed, random, structured, many-round, dense and damaged files, on files with returns at the
+//! top level of everything the host has, and on files with profiles, against the second solver, in both editions.
 
 use compare::{edition, second_verdict};
 use pezvoran::{verdict, Answer, Edition, Large, Small};
@@ -108,6 +108,13 @@ fn dense_full_files_agree() {
 fn returns_at_the_top_level_agree() {
     fairly_shared(many::<Small>("top returns", 400, generate::top_returns_in));
     fairly_shared(many::<Large>("top returns", 60, generate::top_returns_in));
+}
+
+/// Guests held to a class, by profiles at the beginning, at the end or anywhere.
+#[test]
+fn profiles_agree() {
+    fairly_shared(many::<Small>("profiles", 1_500, generate::profiles_in));
+    fairly_shared(many::<Large>("profiles", 250, generate::profiles_in));
 }
 
 #[test]

@@ -12,9 +12,8 @@ fn walks<E: Edition>(what: &str, files: u64, steps: usize, make: fn(second::Edit
     for seed in 0..files {
         let (name, file) = make(edition::<E>(), seed);
         let mut table = vec![0; E::TABLE_WORDS];
-        if let Answer::Refused(_) = verdict::<E>(&file, &mut table) {
-            continue;
-        }
+        let answer = verdict::<E>(&file, &mut table);
+        assert!(!matches!(answer, Answer::Refused(_)), "{name}: {answer}");
         let program = read_in(edition::<E>(), &file).expect("the verdict read it");
         for round in 0..2 {
             if let Err(violation) = walk(&program, &table, seed * 2 + round, steps) {
@@ -36,6 +35,12 @@ fn walks_over_structured_files_stay_within_the_table() {
 fn walks_over_files_with_returns_at_the_top_level_stay_within_the_table() {
     walks::<Small>("top returns", 60, 2_000, generate::top_returns_in);
     walks::<Large>("top returns", 30, 2_000, generate::top_returns_in);
+}
+
+#[test]
+fn walks_over_files_with_profiles_stay_within_the_table() {
+    walks::<Small>("profiles", 300, 2_000, generate::profiles_in);
+    walks::<Large>("profiles", 100, 2_000, generate::profiles_in);
 }
 
 #[test]

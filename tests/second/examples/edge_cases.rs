@@ -1,13 +1,13 @@
 //! Writes the cases of the Rattle program `edges` and what it must print: good and bad values side by side for every field of every kind, the value of a
-//! return also at the top level, every cut record, a function left out, and files at the size limit, in the small edition and then in the large one. Run
-//! from this package's folder.
+//! return also at the top level, a profile also where one stands, every cut record, a function left out, and files at the size limit, in the small edition
+//! and then in the large one. Run from this package's folder.
 
 use second::edition::Edition;
 use second::generate::edges;
 use second::reader::read_in;
 use std::fs;
 
-/// The byte values on both sides of every border that document 01 and request 01 draw.
+/// The byte values on both sides of every border that document 01 and requests 01 and 04 draw.
 const BORDERS: [u8; 26] =
     [0, 1, 2, 3, 4, 5, 6, 7, 8, 9, 10, 11, 12, 13, 31, 32, 63, 64, 127, 128, 135, 136, 143, 144, 254, 255];
 
@@ -23,7 +23,9 @@ fn wanted(name: &str) -> bool {
     match parts.as_slice() {
         ["edge", "kind", kind] => kind.parse::<u8>().is_ok_and(|k| k < 30 || k == 255),
         ["edge", _, "due"] | ["edge", _, "cut", _] => true,
-        ["edge", _, _, value] | ["edge", _, _, value, "top"] => value.parse::<u8>().is_ok_and(|v| BORDERS.contains(&v)),
+        ["edge", _, _, value] | ["edge", _, _, value, "top" | "again"] => {
+            value.parse::<u8>().is_ok_and(|v| BORDERS.contains(&v))
+        }
         _ => false,
     }
 }

@@ -1,6 +1,7 @@
 //! Writes the files of the Rattle program `cases` and what it must print, of each file in both editions: document 01's eight listed files, four structured
 //! files that use every kind of record and return at the top level, two confined and two leaking, two more with labels above 63, request 01's example with
-//! keys on both sides of their borders, and two random files whose tables hang on keys outside a class. Run from this package's folder.
+//! keys on both sides of their borders, two random files whose tables hang on keys outside a class, and files with a profile: request 04's examples, a guest
+//! that leaks without it, and one whose class has the name. Run from this package's folder.
 
 use second::check::check_in;
 use second::edition::Edition;
@@ -61,6 +62,17 @@ fn outside_keys(leaking: bool) -> Vec<u8> {
         .unwrap()
 }
 
+/// Profiles: to a class without names, with name 3, with every name; a bad one, a second one, a second one that is bad; and, in the file of a guest that
+/// holds an object with label 5, which is forbidden, under name 4: none, one that keeps it from name 4, and one that does not.
+fn profiles() -> Vec<Vec<u8>> {
+    let object =
+        [[2, 5, 1, 0].as_slice(), &[3, 5], &[2, 6, 1, 0], &[5, 2, 0, 255], &[8, 2, 6], &[7, 6, 4, 5], &[6, 2]].concat();
+    let held = [&object, [9, 1].as_slice()].concat();
+    let listed = [&held, [1, 4, 3].as_slice()].concat();
+    let alone = [vec![9, 1], vec![9, 1, 1, 3, 3], vec![9, 0], vec![9, 8], vec![9, 0, 9, 1], vec![9, 0, 9, 9]];
+    alone.into_iter().chain([object, held, listed]).collect()
+}
+
 /// What is printed of a file in an edition: the verdict, and what the check says of the table that it left.
 fn lines_in(edition: Edition, file: &[u8]) -> String {
     let table = read_in(edition, file).map_or(vec![0; edition.table_words()], |program| solve(&program).table);
@@ -77,7 +89,7 @@ fn every_kind(edition: Edition, from: u64, leaking: bool) -> Vec<u8> {
     (from..)
         .map(|seed| structured_in(edition, seed).1)
         .find(|f| {
-            kinds(f).len() == 19
+            kinds(f).len() == 20
                 && records(f).any(|record| top_return(record).is_some())
                 && (edition == Edition::Small || read(f).is_err())
                 && leaks(&answer(edition, f)) == leaking
@@ -89,15 +101,16 @@ fn main() -> std::io::Result<()> {
     let mut cases: Vec<(String, Vec<u8>)> =
         listed().into_iter().enumerate().map(|(i, f)| (format!("listed-{}", i + 1), f)).collect();
     for (number, leaking) in (1..).zip([false, false, true, true]) {
-        cases.push((format!("every-{number}"), every_kind(Edition::Small, 1000 * number, leaking)));
+        cases.push((format!("every-{number}"), every_kind(Edition::Small, 10_000 * number, leaking)));
     }
     for (number, leaking) in (1..).zip([false, true]) {
-        cases.push((format!("large-{number}"), every_kind(Edition::Large, 1000 * number, leaking)));
+        cases.push((format!("large-{number}"), every_kind(Edition::Large, 10_000 * number, leaking)));
     }
     cases.extend(KEYS.map(|key| (format!("key-{key}"), with_key(key))));
     for (number, leaking) in (1..).zip([false, true]) {
         cases.push((format!("outside-{number}"), outside_keys(leaking)));
     }
+    cases.extend(profiles().into_iter().enumerate().map(|(i, file)| (format!("profile-{}", i + 1), file)));
     let mut lines = String::new();
     for (name, file) in &cases {
         for edition in Edition::BOTH {

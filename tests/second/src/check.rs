@@ -1,6 +1,7 @@
 //! The check of a finished table: one use of all rules on the table as given, and nothing concluded is read.
 
 use crate::edition::Edition;
+use crate::keys::PROTOTYPE;
 use crate::program::{Program, Record, Type, BAG};
 use crate::reader::{read_with_table, Refusal};
 use crate::row::Row;
@@ -124,14 +125,14 @@ impl Use<'_> {
             Record::Make { y, l, .. } => self.conclude(e.s(y), Row::of(l)),
             Record::MakeFunction { y, l, q, .. } => {
                 self.conclude(e.s(y), Row::of(l));
-                self.conclude(e.h(l, 3), Row::of(q));
+                self.conclude(e.h(l, PROTOTYPE), Row::of(q));
             }
             Record::Call { k, y, callee, this, args } => self.call(k, y, callee, this, args),
             Record::New { k, y, callee, t, l, args } => {
                 self.conclude(e.s(t), Row::of(l));
                 self.conclude(e.s(y), self.given[e.s(t)]);
                 for m in self.chains(self.given[e.s(callee)]).labels() {
-                    self.conclude(e.p(l), self.given[e.h(m, 3)]);
+                    self.conclude(e.p(l), self.given[e.h(m, PROTOTYPE)]);
                 }
                 self.call(k, y, callee, t, args);
             }

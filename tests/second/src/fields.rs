@@ -1,6 +1,6 @@
 //! What a byte of each sort has to be, given what earlier records declared; else the refusal's number.
 
-use crate::keys::{Key, NAMES};
+use crate::keys::{Key, CLASSES, NAMES};
 use crate::program::{Program, Type, GUEST};
 
 pub const BAD_VARIABLE: u8 = 3;
@@ -11,6 +11,14 @@ pub const TWICE: u8 = 6;
 pub fn name(n: u8) -> Result<u8, u8> {
     if n < NAMES {
         Ok(n)
+    } else {
+        Err(BAD_NAME)
+    }
+}
+
+pub fn class(c: u8) -> Result<u8, u8> {
+    if c < CLASSES {
+        Ok(c)
     } else {
         Err(BAD_NAME)
     }

@@ -9,6 +9,8 @@ pub mod gadgets;
 pub mod halves;
 pub mod kit;
 pub mod object_gadgets;
+pub mod profile_gadgets;
+pub mod profiles;
 pub mod random;
 pub mod rekey;
 pub mod relabel;
@@ -17,6 +19,7 @@ pub mod rounds;
 pub mod small;
 pub mod spread;
 pub mod structured;
+pub mod tables;
 pub mod top_returns;
 pub mod writer;
 
@@ -24,6 +27,7 @@ use crate::edition::Edition;
 pub use damaged::damaged_in;
 pub use dense::dense_in;
 pub use edges::{edge_mix_in, edges_in, sizes_in};
+pub use profiles::profiles_in;
 pub use random::random_in;
 pub use relay::relay_in;
 pub use rounds::rounds_in;
@@ -37,7 +41,7 @@ pub type Named = (String, Vec<u8>);
 
 /// One file of every seeded generator for the seed, but for those whose files are always full.
 pub fn every_in(edition: Edition, seed: u64) -> Vec<Named> {
-    let makers = [random_in, structured_in, rounds_in, spread_in, damaged_in, edge_mix_in, top_returns_in];
+    let makers = [random_in, structured_in, rounds_in, spread_in, damaged_in, edge_mix_in, top_returns_in, profiles_in];
     makers.map(|make| make(edition, seed)).to_vec()
 }
 

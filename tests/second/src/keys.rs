@@ -13,6 +13,8 @@ pub const KEYS_END: u8 = KEY_OUTSIDE_CLASS + CLASSES;
 /// Class 0 holds every name, and no name is outside it.
 pub const EVERY_NAME: u8 = KEY_OF_CLASS;
 pub const NO_NAME: u8 = KEY_OUTSIDE_CLASS;
+/// The name of a function's prototype property.
+pub const PROTOTYPE: u8 = 3;
 /// The bit of class 0, which every mask has; the mask of a name without a record has no other.
 pub const CLASS_ZERO: u8 = 1;
 

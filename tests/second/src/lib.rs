@@ -1,4 +1,4 @@
-//! A second implementation of document 01 and of requests 01, 02 and 13, written from those papers alone, to compare the first with.
+//! A second implementation of document 01 and of requests 01, 02, 04 and 13, written from those papers alone, to compare the first with.
 //!
 //! `reader` reads a statement file, `solver` gives table and verdict, `check` checks a finished table,
 //! `report` gives the program's lines, `generate` makes files, and `machine` walks through the handset machine.

@@ -5,7 +5,7 @@ mod state;
 mod steps;
 
 use crate::prng::Prng;
-use crate::program::{Program, Record, GUEST, GUEST_STATEMENTS};
+use crate::program::{Program, Record, GUEST};
 use crate::row::Row;
 use state::State;
 
@@ -96,6 +96,8 @@ struct Walker {
     by_scope: Vec<Vec<Record>>,
     statements: Vec<(u8, Record)>,
     grants: Vec<Record>,
+    /// The statements of the guest, each as often as it is weighed.
+    guest: Vec<Record>,
     /// Steps to take next: the statements of one frame in a row.
     planned: Vec<(Record, usize)>,
 }
@@ -115,8 +117,9 @@ impl Walker {
                 None => {}
             }
         }
-        by_scope[GUEST as usize].extend(GUEST_STATEMENTS);
-        Walker { by_scope, statements, grants, planned: Vec::new() }
+        by_scope[GUEST as usize].extend(&program.guest);
+        let guest = program.guest.iter().flat_map(|&record| vec![record; weight(record)]).collect();
+        Walker { by_scope, statements, grants, guest, planned: Vec::new() }
     }
 
     fn step(&mut self, state: &mut State) -> Result<bool, String> {
@@ -126,9 +129,8 @@ impl Walker {
         match state.r.below(20) {
             0..=7 => {
                 let frame = state.some_frame(GUEST).unwrap_or(1);
-                // Calls and loads most often.
-                let choice = state.r.pick(&[0, 1, 1, 1, 2, 2, 3, 3, 3, 3, 4, 4, 5, 6, 7]);
-                state.carry_out(GUEST_STATEMENTS[choice], frame)
+                let record = state.r.pick(&self.guest);
+                state.carry_out(record, frame)
             }
             8..=12 if !self.statements.is_empty() => {
                 for _ in 0..8 {
@@ -166,6 +168,16 @@ impl Walker {
             _ => records.reverse(),
         }
         self.planned = records.into_iter().map(|record| (record, frame)).collect();
+    }
+}
+
+/// How often a statement of the guest is chosen beside the others: calls and loads most often.
+fn weight(record: Record) -> usize {
+    match record {
+        Record::Call { .. } => 4,
+        Record::Load { .. } => 3,
+        Record::Store { .. } | Record::New { .. } => 2,
+        _ => 1,
     }
 }
 

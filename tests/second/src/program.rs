@@ -1,7 +1,7 @@
 //! What a readable statement file says: its declarations and its records, as plain data.
 
 use crate::edition::Edition;
-use crate::keys::{Key, CLASS_ZERO, EVERY_NAME, NAMES};
+use crate::keys::{Key, CLASS_ZERO, KEY_OF_CLASS, NAMES, PROTOTYPE};
 use crate::row::Row;
 
 /// The longest statement file that is read.
@@ -36,7 +36,7 @@ pub struct Variable {
     pub name: Option<u8>,
 }
 
-/// A record that has rules of its own; the declaring kinds 1 to 5 are kept in `Program`'s arrays.
+/// A record that has rules of its own; what kinds 1 to 5 and 9 declare is kept in `Program`'s other fields.
 #[derive(Clone, Copy, PartialEq, Eq, Debug)]
 pub enum Record {
     Grant { v: u8 },
@@ -55,18 +55,6 @@ pub enum Record {
     Prim { k: u8, object: u8 },
 }
 
-/// The guest: scope 3, variable 1 in every variable field, w, l, q = 3 and key 128.
-pub const GUEST_STATEMENTS: [Record; 8] = [
-    Record::MakeFunction { k: GUEST, y: BAG, l: GUEST, q: GUEST },
-    Record::Load { k: GUEST, y: BAG, object: BAG, key: EVERY_NAME, w: GUEST },
-    Record::Store { k: GUEST, object: BAG, key: EVERY_NAME, value: BAG },
-    Record::Call { k: GUEST, y: BAG, callee: BAG, this: BAG, args: [BAG; 6] },
-    Record::New { k: GUEST, y: BAG, callee: BAG, t: BAG, l: GUEST, args: [BAG; 6] },
-    Record::Return { k: GUEST, value: BAG },
-    Record::Throw { k: GUEST, value: BAG },
-    Record::Catch { k: GUEST, y: BAG },
-];
-
 #[derive(Clone, PartialEq, Debug)]
 pub struct Program {
     pub edition: Edition,
@@ -77,7 +65,9 @@ pub struct Program {
     /// The class masks of the whole file.
     pub masks: [Option<u8>; NAMES as usize],
     pub forbidden: Row,
-    /// Records of kinds 6 to 26 in the order of the file.
+    /// The class of names that the guest is held to by a profile (kind 9).
+    pub profile: Option<u8>,
+    /// Records of kinds 6 to 8 and 16 to 26 in the order of the file.
     pub records: Vec<Record>,
     /// The statements of the guest, which belong to no record.
     pub guest: Vec<Record>,
@@ -94,16 +84,41 @@ impl Program {
         labels[4] = Some(Label { kind: Type::Plain, built_in: true });
         let mut functions = [None; 256];
         functions[GUEST as usize] = Some(Function { this: BAG, formals: [BAG; 6] });
-        Program {
+        let mut program = Program {
             edition,
             labels,
             functions,
             variables: [None; 256],
             masks: [None; NAMES as usize],
             forbidden: Row::EMPTY,
+            profile: None,
             records: Vec::new(),
-            guest: GUEST_STATEMENTS.to_vec(),
-        }
+            guest: Vec::new(),
+        };
+        program.guest = program.guest_statements();
+        program
+    }
+
+    /// The guest: scope 3, variable 1 in every variable field, w, l, q = 3 and the key of its class, without a profile that of class 0; by the
+    /// masks read so far.
+    pub fn guest_statements(&self) -> Vec<Record> {
+        let key = KEY_OF_CLASS + self.profile.unwrap_or(0);
+        // Request 04: the prototype property is written only if the class has its name. Make function without it is make.
+        let make_function = if self.key_has(key, PROTOTYPE) {
+            Record::MakeFunction { k: GUEST, y: BAG, l: GUEST, q: GUEST }
+        } else {
+            Record::Make { k: GUEST, y: BAG, l: GUEST }
+        };
+        vec![
+            make_function,
+            Record::Load { k: GUEST, y: BAG, object: BAG, key, w: GUEST },
+            Record::Store { k: GUEST, object: BAG, key, value: BAG },
+            Record::Call { k: GUEST, y: BAG, callee: BAG, this: BAG, args: [BAG; 6] },
+            Record::New { k: GUEST, y: BAG, callee: BAG, t: BAG, l: GUEST, args: [BAG; 6] },
+            Record::Return { k: GUEST, value: BAG },
+            Record::Throw { k: GUEST, value: BAG },
+            Record::Catch { k: GUEST, y: BAG },
+        ]
     }
 
     /// The declared labels with what was declared of them, ascending.

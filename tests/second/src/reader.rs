@@ -1,7 +1,7 @@
 //! Reads a statement file, or says by number and position why it is refused.
 
 use crate::edition::Edition;
-use crate::fields::{key, name, BAD_LABEL, BAD_NAME, BAD_VARIABLE, TWICE};
+use crate::fields::{class, key, name, BAD_LABEL, BAD_NAME, BAD_VARIABLE, TWICE};
 use crate::keys::CLASS_ZERO;
 use crate::program::{Function, Label, Program, Record, Type, Variable, LONGEST_FILE};
 use crate::row::Row;
@@ -48,6 +48,8 @@ pub fn read_in(edition: Edition, file: &[u8]) -> Result<Program, Refusal> {
     if edition.declarable().any(unwritten) {
         return Err(Refusal { number: 7, position: file.len() });
     }
+    // A profile goes by the masks of the whole file.
+    program.guest = program.guest_statements();
     Ok(program)
 }
 
@@ -62,6 +64,7 @@ pub fn body_length(kind: u8) -> Option<usize> {
         6 => 1,
         7 => 3,
         8 => 2,
+        9 => 1,
         16 => 3,
         17 => 5,
         18 => 4,
@@ -102,6 +105,7 @@ fn take(program: &mut Program, kind: u8, b: &[u8]) -> Result<(), u8> {
         6 => Record::Grant { v: program.top_variable(b[0])? },
         7 => Record::Property { l: program.host_label(b[0])?, n: name(b[1])?, x: program.host_label(b[2])? },
         8 => Record::Held { v: program.top_variable(b[0])?, l: program.host_label(b[1])? },
+        9 => return take_profile(program, b[0]),
         _ => statement(program, kind, b)?,
     };
     program.records.push(record);
@@ -203,5 +207,14 @@ fn take_variable(program: &mut Program, v: u8, owner: u8, n: u8) -> Result<(), u
         return Err(TWICE);
     }
     program.variables[v as usize] = Some(Variable { owner, name });
+    Ok(())
+}
+
+fn take_profile(program: &mut Program, c: u8) -> Result<(), u8> {
+    let c = class(c)?;
+    if program.profile.is_some() {
+        return Err(TWICE);
+    }
+    program.profile = Some(c);
     Ok(())
 }

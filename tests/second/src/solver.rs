@@ -2,6 +2,7 @@
 
 use crate::edition::Edition;
 use crate::graph::Graph;
+use crate::keys::PROTOTYPE;
 use crate::program::{Program, Record, Type, BAG};
 use crate::reader::{read_with_table, Refusal};
 use crate::row::Row;
@@ -167,7 +168,7 @@ impl Solver<'_> {
             Record::Make { y, l, .. } => self.graph.hold(e.s(y), Row::of(l)),
             Record::MakeFunction { y, l, q, .. } => {
                 self.graph.hold(e.s(y), Row::of(l));
-                self.graph.hold(e.h(l, 3), Row::of(q));
+                self.graph.hold(e.h(l, PROTOTYPE), Row::of(q));
             }
             Record::Call { k, y, callee, this, args } => self.wait(e.s(callee), Wait::Call { k, y, this, args }),
             Record::New { k, y, callee, t, l, args } => {
@@ -225,7 +226,7 @@ impl Solver<'_> {
                     self.graph.include(e.t(k), e.t(x));
                 }
             }
-            Wait::Prototype { l } => self.graph.include(e.p(l), e.h(x, 3)),
+            Wait::Prototype { l } => self.graph.include(e.p(l), e.h(x, PROTOTYPE)),
             Wait::Methods { object } => {
                 self.graph.include(e.methods(object), e.h(x, 1));
                 self.graph.include(e.methods(object), e.h(x, 2));

@@ -1,4 +1,5 @@
-//! Every byte value in every field of every kind, against a list of good values written by hand from document 01 and requests 01, 02 and 13.
+//! Every byte value in every field of every kind, against a list of good values written by hand from document 01 and requests 01, 02, 04 and
+//! 13.
 
 use second::generate::edges_in;
 use second::reader::read_in;
@@ -19,6 +20,7 @@ enum Field {
     Made,
     Func,
     Name,
+    Class,
     Key,
 }
 
@@ -60,6 +62,7 @@ fn judge(edition: Edition, field: Field, value: u8) -> u8 {
                 5
             }
         }
+        Class => among(&[0, 1, 2, 3, 4, 5, 6, 7], 5),
         Key => {
             if value <= 31 || (128..=143).contains(&value) {
                 0
@@ -114,6 +117,7 @@ fn expected(edition: Edition, kind: u8, field: usize, value: u8) -> u8 {
         6 => &[Top],
         7 => &[Host, Name, Host],
         8 => &[Top, Host],
+        9 => &[Class],
         16 => &[Scope, Var, Var],
         17 => &[Scope, Var, Var, Key, Plain],
         18 => &[Scope, Var, Key, Var],
@@ -141,7 +145,7 @@ fn every_value(edition: Edition) {
         let parts: Vec<&str> = name.split('-').collect();
         let expected = match parts[1..] {
             ["kind", kind] => {
-                if matches!(kind.parse(), Ok(1..=8 | 16..=26)) {
+                if matches!(kind.parse(), Ok(1..=9 | 16..=26)) {
                     2
                 } else {
                     1
@@ -150,6 +154,11 @@ fn every_value(edition: Edition) {
             [_, "cut", _] => 2,
             ["4", "due"] => 0,
             [_, "due"] => 7,
+            // Where a profile stands, a good class is one too many.
+            ["9", "1", value, "again"] => match expected(edition, 9, 1, value.parse().unwrap()) {
+                0 => 6,
+                bad => bad,
+            },
             [kind, field, value] | [kind, field, value, "top"] => {
                 expected(edition, kind.parse().unwrap(), field.parse().unwrap(), value.parse().unwrap())
             }

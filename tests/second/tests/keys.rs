@@ -80,7 +80,7 @@ fn masks_before(file: &[u8]) -> Vec<[Option<u8>; NAMES as usize]> {
     for start in record_starts(file) {
         match file[start] {
             1 => masks[file[start + 1] as usize] = Some(file[start + 2]),
-            2..=5 => {}
+            2..=5 | 9 => {}
             _ => all.push(masks),
         }
     }

@@ -1,5 +1,5 @@
-//! The eight listed files of document 01, its edges as request 01 leaves them, its traps, and what requests 01 and 02 say, against reader, solver and
-//! check, in both editions.
+//! The eight listed files of document 01, its edges as request 01 leaves them, its traps, and what requests 01, 02 and 04 say, against reader, solver
+//! and check, in both editions.
 
 use second::check::check_in;
 use second::generate::top_returns::with_top_returns;
@@ -81,7 +81,7 @@ fn listed_files() {
         }
         assert_eq!(report_in(edition, &[]), "confined 45\nguest 3\n");
         assert_eq!(report_in(edition, &list[4].0), "leaks 5 148\nguest 3 5\n");
-        assert_eq!(report_in(edition, &[3, 3, 9]), "refused 1 2\n");
+        assert_eq!(report_in(edition, &[3, 3, 0]), "refused 1 2\n");
     }
     assert_eq!(report(&list[4].0), "leaks 5 148\nguest 3 5\n");
 }
@@ -403,4 +403,65 @@ fn nobody_gets_what_the_top_level_returns() {
         w.give_back(6, 2);
         assert_eq!(answer(edition, &w.bytes).verdict, Verdict::Leaks(5));
     }
+}
+
+/// Request 04: the guest held to a class of names, to every name, and to no class there is.
+#[test]
+fn guests_held_to_a_class() {
+    let list: [(&[u8], &str); 9] = [
+        (&[9, 1], "confined 13\nguest 3\n"),
+        (&[9, 1, 1, 3, 3], "confined 14\nguest 3\n"),
+        (&[1, 3, 3, 9, 1], "confined 14\nguest 3\n"),
+        (&[9, 1, 1, 4, 3], "confined 14\nguest 3\n"),
+        (&[9, 0], "confined 45\nguest 3\n"),
+        (&[9, 7, 3, 3], "leaks 3 13\nguest 3\n"),
+        (&[9, 8], "refused 5 0\n"),
+        (&[9, 0, 9, 9], "refused 5 2\n"),
+        (&[9, 0, 9, 1], "refused 6 2\n"),
+    ];
+    for (edition, (file, lines)) in Edition::BOTH.into_iter().flat_map(|e| list.map(|case| (e, case))) {
+        assert_eq!(report_in(edition, file), lines, "{edition:?} {file:?}");
+    }
+}
+
+/// What hangs on the class: the journal 5 is under name 4 of the guest's object; or the listener under name 4 of that object is called with the journal; or
+/// what the guest's function has as its prototype property is. By new the guest's object has function 7's property 8 as its prototype, whatever the class.
+#[test]
+fn what_a_held_guest_gets() {
+    let object = |profile: &[u8]| {
+        let mut w = file_three(255, 0);
+        w.put(profile).label(6, 1, 0).variable(3, 0, 255).variable(4, 0, 255).held(3, 6).grant(3);
+        w
+    };
+    let field = |profile: &[u8]| {
+        let mut w = object(profile);
+        w.property(6, 4, 5);
+        w
+    };
+    let called = |profile: &[u8], name: u8| {
+        let mut w = object(profile);
+        w.label(7, 1, 0).variable(5, 0, 255).copy(0, 5, 3);
+        w.load(0, 4, 5, name, 7).call(0, 0, 4, 0, [2, 0, 0, 0, 0, 0]);
+        w
+    };
+    let prototype = |profile: &[u8], name: u8| {
+        let mut w = object(profile);
+        w.label(7, 2, 0).function(7, 0, [0; 6]).label(8, 1, 0).make_function(0, 3, 7, 8).property(8, name, 5);
+        w
+    };
+    let list = [
+        (field(&[]), Verdict::Leaks(5), 315),
+        (field(&[9, 1]), Verdict::Confined, 23),
+        (field(&[9, 1, 1, 4, 3]), Verdict::Leaks(5), 34),
+        (field(&[9, 2, 1, 4, 3]), Verdict::Confined, 23),
+        (called(&[], 4), Verdict::Leaks(5), 327),
+        (called(&[9, 1], 4), Verdict::Confined, 27),
+        (called(&[9, 1, 1, 4, 3], 4), Verdict::Leaks(5), 46),
+        (called(&[], 3), Verdict::Leaks(5), 327),
+        (called(&[9, 1], 3), Verdict::Confined, 27),
+        (called(&[9, 1, 1, 3, 3], 3), Verdict::Leaks(5), 48),
+        (prototype(&[9, 1, 1, 4, 3], 4), Verdict::Leaks(5), 52),
+        (prototype(&[9, 1, 1, 4, 3], 9), Verdict::Confined, 42),
+    ];
+    have_verdicts(&list);
 }

@@ -37,7 +37,7 @@ fn head() -> Writer {
 #[test]
 fn unknown_kinds_and_short_records() {
     let h = head();
-    for kind in [0, 9, 10, 15, 27, 100, 255] {
+    for kind in [0, 10, 15, 27, 100, 255] {
         assert_eq!(after(&h, &[kind]), 1);
     }
     // Cut short comes before a bad byte in the part that is there.
@@ -186,6 +186,26 @@ fn returns() {
     let mut w = Writer::new();
     w.variable(2, 0, 255).give_back(0, 2);
     assert_eq!(outcome(&w.bytes), (0, 0));
+}
+
+/// Request 04: a class is 0 to 7, and a profile stands once; a bad class comes before a second profile.
+#[test]
+fn profiles() {
+    let h = head();
+    for class in 0..=255 {
+        let bad = if class <= 7 { 0 } else { 5 };
+        assert_eq!(after(&h, &[9, class]), bad, "{class}");
+        let twice = if class <= 7 { 6 } else { 5 };
+        for first in [0, 1, 7] {
+            assert_eq!(outcome(&[9, first, 9, class]), (twice, 2), "{first} {class}");
+            assert_eq!(outcome(&[9, first, 3, 3, 9, class]), (twice, 4), "{first} {class}");
+        }
+    }
+    assert_eq!(after(&h, &[9]), 2);
+    assert_eq!(outcome(&[9, 0, 9]), (2, 2));
+    // The second is refused before a record that follows it, and after one before it.
+    assert_eq!(outcome(&[9, 0, 9, 0, 0]), (6, 2));
+    assert_eq!(outcome(&[9, 0, 0, 9, 0]), (1, 2));
 }
 
 #[test]

@@ -222,7 +222,7 @@ fn the_empty_table_and_short_tables() {
     for (edition, words) in [(Edition::Small, 2_432), (Edition::Large, 35_840)] {
         assert_eq!(check_in(edition, &[], &vec![0; words]), Err(Refusal { number: 10, position: 1 }));
         assert_eq!(check_in(edition, &[], &vec![0; words - 1]), Err(Refusal { number: 8, position: 0 }));
-        assert_eq!(check_in(edition, &[9], &vec![0; words]), Err(Refusal { number: 1, position: 0 }));
+        assert_eq!(check_in(edition, &[0], &vec![0; words]), Err(Refusal { number: 1, position: 0 }));
         assert_eq!(check_in(edition, &vec![0; 32_769], &vec![0; words]), Err(Refusal { number: 9, position: 0 }));
     }
     assert_eq!(check(&[], &vec![0; 2_432]), Err(Refusal { number: 10, position: 1 }));

@@ -6,6 +6,7 @@ mod common;
 
 use common::{short_files, Made};
 use second::check::{check_in, check_program, one_use};
+use second::generate::tables::tables_about;
 use second::generate::top_returns::{records, top_return, top_returns_in, with_top_returns, without_top_returns};
 use second::generate::{damaged_in, edge_mix_in, edges_in, Named};
 use second::machine::{idle, walk};
@@ -23,21 +24,6 @@ fn program(edition: Edition, file: &[u8]) -> Program {
 fn files() -> impl Iterator<Item = (Edition, Named)> {
     let both = [(Edition::Small, 600), (Edition::Large, 160)];
     both.into_iter().flat_map(|(e, seeds)| (0..seeds).map(move |seed| (e, top_returns_in(e, seed))))
-}
-
-/// A finished table with some bits changed, more of them each time, and at last tables that have little to do with it.
-fn damaged_tables(edition: Edition, r: &mut Prng, finished: &[u64]) -> Vec<Vec<u64>> {
-    let words = edition.table_words();
-    let mut tables = vec![finished.to_vec(), vec![0; words], vec![u64::MAX; words]];
-    for changes in 1..=4 {
-        let mut table = finished.to_vec();
-        for _ in 0..changes * changes {
-            table[r.below(words)] ^= 1 << r.below(64);
-        }
-        tables.push(table);
-    }
-    tables.push((0..words).map(|_| r.next() & r.next()).collect());
-    tables
 }
 
 #[test]
@@ -60,7 +46,7 @@ fn any_table_has_the_same_check_with_and_without() {
     for (e, (name, file)) in files().step_by(3) {
         let rest = without_top_returns(&file);
         let (with, without) = (program(e, &file), program(e, &rest));
-        for table in damaged_tables(e, &mut r, &solve(&without).table) {
+        for table in tables_about(e, &mut r, &solve(&without).table) {
             assert!(one_use(&with, &table) == one_use(&without, &table), "{name}");
             let outcome = check_in(e, &file, &table);
             assert_eq!(outcome, check_program(&without, &table), "{name}");

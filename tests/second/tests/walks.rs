@@ -1,7 +1,7 @@
 //! Walks of the handset machine over generated files of both editions: no value outside the table, nothing forbidden in the bag.
 
 use second::generate::writer::Writer;
-use second::generate::{random_in, rounds_in, spread_in, structured, structured_in, Named};
+use second::generate::{profiles_in, random_in, rounds_in, spread_in, structured, structured_in, Named};
 use second::machine::{walk, witnessed, Stats};
 use second::reader::{read, read_in};
 use second::row::Row;
@@ -62,6 +62,13 @@ fn spread_files() {
     walk_all(Edition::Large, "spread", spread_in, 150, 2000);
 }
 
+/// Guests held to a class.
+#[test]
+fn profile_files() {
+    walk_all(Edition::Small, "profiles", profiles_in, 400, 2000);
+    walk_all(Edition::Large, "profiles", profiles_in, 200, 2000);
+}
+
 /// Many more files and steps; run with --ignored.
 #[test]
 #[ignore]
@@ -70,6 +77,7 @@ fn long_walks() {
         walk_all(edition, "random", random_in, 6_000, 4000);
         walk_all(edition, "structured", structured_in, 20_000, 4000);
         walk_all(edition, "rounds", rounds_in, 4_000, 4000);
+        walk_all(edition, "profiles", profiles_in, 4_000, 4000);
     }
 }
 

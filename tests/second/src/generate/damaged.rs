@@ -1,13 +1,14 @@
 //! Generator (d), first part: readable files of the other generators, damaged.
 
-use super::edges::{border_bytes, KEY_BORDERS, KINDS};
+use super::edges::{border_bytes, CLASS_BORDERS, KEY_BORDERS, KINDS};
 use super::rekey::key_positions;
 use super::{random_in, rounds_in, structured_in, title, Named};
 use crate::edition::Edition;
 use crate::prng::Prng;
 use crate::reader::{body_length, record_starts};
 
-/// Makes a readable file and then changes, cuts, inserts, doubles or swaps some of its bytes, keys and the fields of returns among them.
+/// Makes a readable file and then changes, cuts, inserts, doubles or swaps some of its bytes, keys and the fields of returns among them, or puts
+/// in a profile, which may be one too many.
 pub fn damaged_in(edition: Edition, seed: u64) -> Named {
     let mut r = Prng::new(seed.wrapping_mul(17).wrapping_add(0xD));
     let base = r.next() % 100_000;
@@ -30,7 +31,7 @@ fn damage(edition: Edition, r: &mut Prng, bytes: &mut Vec<u8>) {
     }
     let at = r.below(bytes.len());
     let start = r.pick(&starts);
-    match r.below(10) {
+    match r.below(11) {
         0 => bytes[at] = r.byte(),
         1 => bytes[at] = r.pick(border_bytes(edition)),
         2 => bytes.truncate(at),
@@ -50,7 +51,8 @@ fn damage(edition: Edition, r: &mut Prng, bytes: &mut Vec<u8>) {
                 bytes[field] = r.pick(border_bytes(edition));
             }
         }
-        8 => {
+        8 => drop(bytes.splice(start..start, [9, r.pick(&CLASS_BORDERS)])),
+        9 => {
             let length = body_length(bytes[start]).unwrap_or(0) + 1;
             let record = bytes[start..(start + length).min(bytes.len())].to_vec();
             let to = r.pick(&starts);

@@ -58,7 +58,8 @@ enum Keys {
     Any,
 }
 
-/// Makes a full file of one kind of statement (or all kinds) over all labels and all 254 variables, few or all of them granted.
+/// Makes a full file of one kind of statement (or all kinds) over all labels and all 254 variables, few or all of them granted; in a third of
+/// the files the guest is held to a class.
 pub fn dense_in(edition: Edition, seed: u64) -> Named {
     let mut r = Prng::new(seed.wrapping_mul(23).wrapping_add(0xF));
     let mut w = Writer::new();
@@ -68,7 +69,15 @@ pub fn dense_in(edition: Edition, seed: u64) -> Named {
     }
     // Half of the name records stand before the keys, half after them.
     w.put(&names(&mut r, 0..NAMES / 2));
-    let late_names = names(&mut r, NAMES / 2..NAMES);
+    let mut late_names = names(&mut r, NAMES / 2..NAMES);
+    if r.chance(1, 3) {
+        let profile = [9, r.below(CLASSES as usize) as u8];
+        if r.chance(1, 2) {
+            w.put(&profile);
+        } else {
+            late_names.extend(profile);
+        }
+    }
     // The last variables belong to functions.
     for v in 2..=255 {
         w.variable(v, if v < 200 { 0 } else { all.some_function(&mut r) }, 255);

@@ -7,7 +7,7 @@ use super::{title, Named};
 use crate::edition::Edition;
 use crate::prng::Prng;
 
-pub const KINDS: [u8; 19] = [1, 2, 3, 4, 5, 6, 7, 8, 16, 17, 18, 19, 20, 21, 22, 23, 24, 25, 26];
+pub const KINDS: [u8; 20] = [1, 2, 3, 4, 5, 6, 7, 8, 9, 16, 17, 18, 19, 20, 21, 22, 23, 24, 25, 26];
 
 /// Byte values on both sides of the borders; those of words in the large edition only come last.
 const BORDERS: [u8; 30] = [
@@ -18,6 +18,9 @@ const LARGE_BORDERS: usize = 2;
 
 /// Keys on both sides of the borders, and one of each sort within them.
 pub const KEY_BORDERS: [u8; 10] = [31, 32, 127, 128, 129, 135, 136, 137, 143, 144];
+
+/// Classes and bytes beyond them.
+pub const CLASS_BORDERS: [u8; 8] = [0, 1, 3, 6, 7, 8, 9, 255];
 
 pub fn border_bytes(edition: Edition) -> &'static [u8] {
     match edition {
@@ -55,6 +58,7 @@ fn good(edition: Edition, kind: u8) -> Vec<u8> {
         6 => &[2],
         7 => &[5, 1, 7],
         8 => &[3, 6],
+        9 => &[1],
         16 => &[6, 4, 2],
         17 => &[0, 3, 4, 129, 8],
         18 => &[9, 2, 137, 6],
@@ -85,7 +89,7 @@ fn between(edition: Edition, record: &[u8], with_function: bool) -> Vec<u8> {
 }
 
 /// Makes every file of a good preface and one record of any kind with one field set to any of the 256 bytes, cut anywhere; the value of a return
-/// also at the top level.
+/// also at the top level, and a profile also where one stands.
 pub fn edges_in(edition: Edition) -> Vec<Named> {
     let mut files = Vec::new();
     for kind in 0..=255 {
@@ -105,6 +109,7 @@ pub fn edges_in(edition: Edition) -> Vec<Named> {
     }
     for value in 0..=255 {
         files.push((format!("edge-23-2-{value}-top"), between(edition, &[23, 0, value], true)));
+        files.push((format!("edge-9-1-{value}-again"), between(edition, &[9, 1, 9, value], true)));
     }
     files
 }

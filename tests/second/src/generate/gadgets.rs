@@ -1,13 +1,13 @@
 //! The list of the pieces of structured files, each a few statements of sensible host code.
 
 use super::kit::Kit;
-use super::{call_gadgets as calls, object_gadgets as objects};
+use super::{call_gadgets as calls, object_gadgets as objects, profile_gadgets as profiles};
 use crate::edition::Edition;
 
 pub type Gadget = (&'static str, fn(&mut Kit));
 
 /// The pieces; those with many labels come last.
-const GADGETS: [Gadget; 20] = [
+const GADGETS: [Gadget; 23] = [
     ("closure", calls::closure),
     ("membrane", calls::membrane),
     ("prototypes", objects::prototypes),
@@ -26,6 +26,9 @@ const GADGETS: [Gadget; 20] = [
     ("recursion", calls::recursion),
     ("arguments", calls::arguments),
     ("module", calls::module),
+    ("kept_field", profiles::kept_field),
+    ("kept_listener", profiles::kept_listener),
+    ("kept_prototype", profiles::kept_prototype),
     ("sites", objects::sites),
     ("sites", objects::sites),
 ];

@@ -24,6 +24,8 @@ pub struct Plan {
     pub properties: usize,
     /// Name records at the end of the file, after every key.
     pub late_names: usize,
+    /// The class of a profile still to be written.
+    pub profile: Option<u8>,
     /// A record mixes the halves in this many of a thousand cases.
     pub crossing: usize,
     /// Forbid in the second half only, grant in the first half only.
@@ -123,6 +125,13 @@ impl State {
         } else {
             Some(self.r.pick(all))
         }
+    }
+
+    /// Writes the profile, if one is still to be written.
+    pub fn profile(&mut self) -> bool {
+        let Some(class) = self.plan.profile.take() else { return false };
+        self.w.profile(class);
+        true
     }
 
     pub fn key(&mut self) -> u8 {

@@ -2,7 +2,7 @@
 
 use super::writer::Writer;
 use crate::edition::Edition;
-use crate::keys::{CLASSES, CLASS_ZERO};
+use crate::keys::{CLASSES, CLASS_ZERO, NAMES};
 use crate::prng::Prng;
 
 /// A declared function with its own variables.
@@ -23,6 +23,7 @@ pub struct Kit {
     next_variable: u8,
     next_name: u8,
     masked: u32,
+    profile: Option<u8>,
     /// Top variables that hold forbidden objects.
     pub secrets: Vec<u8>,
     /// Top variables with objects that may be shown.
@@ -43,6 +44,7 @@ impl Kit {
             next_variable: 2,
             next_name: 4,
             masked: 0,
+            profile: None,
             secrets: Vec::new(),
             open: Vec::new(),
             careless,
@@ -154,6 +156,19 @@ impl Kit {
         (n, class)
     }
 
+    /// The class that the guest is held to: any but class 0, chosen at the first call.
+    pub fn profile(&mut self) -> u8 {
+        let class = self.r.between(1, CLASSES as usize - 1) as u8;
+        *self.profile.get_or_insert(class)
+    }
+
+    /// Gives the name a mask without the class that the guest is held to, by a slip with it, unless it has one.
+    pub fn keep_from_guest(&mut self, n: u8) {
+        let class = self.profile();
+        let listed = if self.slips() { 1 << class } else { 0 };
+        self.name_mask(n, CLASS_ZERO | listed);
+    }
+
     pub fn held(&mut self, v: u8, l: u8) {
         self.say(|w| w.held(v, l));
     }
@@ -207,9 +222,17 @@ impl Kit {
         }
     }
 
-    /// The file: names and a few more forbids, then the body in the order written, backwards or shuffled; at times a return at the top level
-    /// ends it, as in modules from the new translator.
+    /// The file: declarations, then the body in the order written, backwards or shuffled, with a few more forbids, the profile and some more names
+    /// of its class; at times a return at the top level ends it, as in modules from the new translator.
     pub fn finish(mut self) -> Vec<u8> {
+        if self.r.chance(1, 8) {
+            self.profile();
+        }
+        if let Some(class) = self.profile {
+            self.say(|w| w.profile(class));
+            let others: Vec<u8> = (0..NAMES).filter(|_| self.r.chance(1, 3)).collect();
+            others.into_iter().for_each(|n| self.name_mask(n, CLASS_ZERO | 1 << class));
+        }
         if self.slips() {
             let l = self.r.pick(&[0, 1, 2, 4, 5, 6]);
             self.say(|w| w.forbid(l));

@@ -4,7 +4,7 @@ use super::halves::{Half, Plan, State};
 use super::writer::Writer;
 use super::{title, Named};
 use crate::edition::Edition;
-use crate::keys::{CLASS_ZERO, NAMES};
+use crate::keys::{CLASSES, CLASS_ZERO, NAMES};
 use crate::prng::Prng;
 use std::ops::RangeInclusive;
 
@@ -25,8 +25,8 @@ pub fn random_in(edition: Edition, seed: u64) -> Named {
         plan,
         r,
     };
-    // 12 bytes for the longest record, 6 for filling up, 9 for each function record still due, 3 for each name record.
-    while state.w.bytes.len() + 9 * state.unwritten.len() + 9 + 3 * state.late_names.len() + 18 <= state.plan.target {
+    // 12 bytes for the longest record, 6 for filling up, 9 for each function record still due, 3 for each name record, 2 for a profile.
+    while state.w.bytes.len() + 9 * state.unwritten.len() + 9 + 3 * state.late_names.len() + 20 <= state.plan.target {
         state.side = state.r.below(2);
         state.record();
     }
@@ -34,8 +34,12 @@ pub fn random_in(edition: Edition, seed: u64) -> Named {
         state.function(l, side);
     }
     while let Some(n) = state.late_names.pop() {
+        if state.r.chance(1, 4) {
+            state.profile();
+        }
         state.name(n);
     }
+    state.profile();
     let target = state.plan.target;
     state.w.fill(target);
     (title(edition, "random", seed), state.w.bytes)
@@ -61,6 +65,7 @@ fn plan(edition: Edition, r: &mut Prng) -> Plan {
         forbids: r.pick(&[1, 1, 2, 5, 20]),
         properties: r.pick(&[0, 2, 10, 100]),
         late_names: r.pick(&[0, 0, 0, 3, 10]),
+        profile: r.chance(1, 3).then(|| r.below(CLASSES as usize) as u8),
         crossing: r.pick(&[0, 0, 0, 5, 50, 500]),
         guarded: r.chance(2, 3),
     }
@@ -83,7 +88,7 @@ impl State {
 
     /// Writes a declaring record if the plan has one left.
     fn declare(&mut self) -> bool {
-        match self.r.below(12) {
+        match self.r.below(13) {
             0 | 1 | 2 if self.plan.labels > 0 => self.label(),
             3..=6 if self.plan.variables > 0 => self.variable(),
             7 => {
@@ -110,6 +115,7 @@ impl State {
                 self.w.property(l, n, x);
                 self.plan.properties -= 1;
             }
+            12 if self.r.chance(1, 10) => return self.profile(),
             _ => return false,
         }
         true

@@ -21,7 +21,7 @@ pub fn any_order(r: &mut Prng) -> Map {
 /// The bytes of the body, counted from 0, that are labels or scopes.
 fn label_bytes(kind: u8) -> &'static [usize] {
     match kind {
-        1 | 6 => &[],
+        1 | 6 | 9 => &[],
         5 | 8 => &[1],
         7 | 19 => &[0, 2],
         17 | 22 => &[0, 4],

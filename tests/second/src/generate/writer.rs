@@ -47,6 +47,10 @@ impl Writer {
         self.put(&[8, v, l])
     }
 
+    pub fn profile(&mut self, c: u8) -> &mut Writer {
+        self.put(&[9, c])
+    }
+
     pub fn copy(&mut self, k: u8, y: u8, source: u8) -> &mut Writer {
         self.put(&[16, k, y, source])
     }

@@ -1,6 +1,7 @@
 //! The single steps of the machine, and the choice of frames, pairs and thrown values.
 
 use super::state::{Caller, Pair, State, Value};
+use crate::keys::PROTOTYPE;
 use crate::program::{Record, BAG};
 
 /// No more frames or objects than this; a step that would make more is not taken.
@@ -43,7 +44,7 @@ impl State<'_> {
                 let prototypes = (self.prototype_of_type(l), self.prototype_of_type(q));
                 let function = self.make(l, prototypes.0, frame)?;
                 let property = self.make(q, prototypes.1, frame)?;
-                self.put(function, (3, 0), Value::Object(property))?;
+                self.put(function, (PROTOTYPE, 0), Value::Object(property))?;
                 self.write(frame, y, Value::Object(function))?;
                 Ok(true)
             }
@@ -146,7 +147,7 @@ impl State<'_> {
         if self.program.function(self.objects[o].label).is_none() {
             return Ok(false);
         }
-        let pair = self.some_pair(3, o).unwrap_or((3, 0));
+        let pair = self.some_pair(PROTOTYPE, o).unwrap_or((PROTOTYPE, 0));
         let prototype = match self.look_up(o, pair) {
             Value::Object(found) => Some(found),
             Value::Primitive => self.prototype_one(),

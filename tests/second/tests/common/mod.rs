@@ -1,6 +1,6 @@
 //! Generated files that are short enough for many solutions and walks.
 
-use second::generate::{random_in, rounds_in, structured_in};
+use second::generate::{profiles_in, random_in, rounds_in, structured_in};
 use second::program::Program;
 use second::reader::read_in;
 use second::Edition;
@@ -20,9 +20,9 @@ impl Made {
     }
 }
 
-/// Structured, many-round and random files for the seeds from 0 on.
+/// Structured, many-round and random files, and files with a profile, for the seeds from 0 on.
 pub fn short_files(edition: Edition, seeds: u64) -> impl Iterator<Item = Made> {
-    let makers = [structured_in, rounds_in, random_in];
+    let makers = [structured_in, rounds_in, random_in, profiles_in];
     let all = (0..seeds).flat_map(move |seed| {
         makers.map(|make| {
             let (name, file) = make(edition, seed);
