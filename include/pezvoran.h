@@ -154,8 +154,8 @@ static inline const char *pezvoran_refusal_text(unsigned number)
     case PEZVORAN_RECORD_CUT_SHORT: return "the file ends inside the record";
     case PEZVORAN_BAD_VARIABLE: return "a variable of the record is not declared or not allowed there";
     case PEZVORAN_BAD_LABEL: return "a label or scope of the record is not declared or not allowed there";
-    case PEZVORAN_BAD_VALUE: return "a name, key, mask, type or flag of the record is out of range";
-    case PEZVORAN_DECLARED_TWICE: return "the record declares a name, label, variable or function a second time";
+    case PEZVORAN_BAD_VALUE: return "a name, key, mask, class, type or flag of the record is out of range";
+    case PEZVORAN_DECLARED_TWICE: return "the record declares a name, label, variable, function or profile a second time";
     case PEZVORAN_FUNCTION_MISSING: return "a function label has no function record";
     case PEZVORAN_TABLE_TOO_SHORT: return "the table is not full: a full one has 2432 words, in the large edition 35840";
     case PEZVORAN_FILE_TOO_LONG: return "the file is longer than 32768 bytes";

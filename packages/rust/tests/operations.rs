@@ -26,6 +26,7 @@ in_both_editions! {
     rows_are_found_by_what_they_stand_for
     a_table_kept_as_bytes_is_the_same_table
     a_key_may_stand_for_all_names_outside_a_class
+    a_guest_may_be_held_to_a_class
     a_return_may_stand_at_the_top_level
 }
 
@@ -87,7 +88,7 @@ fn a_short_table_is_refused<E: Edition>() {
 }
 
 fn a_refusal_leaves_every_word<E: Edition>() {
-    for (file, answer) in [(vec![3, 3, 9], refused(1, 2)), (vec![0; FILE_BYTES + 1], refused(9, 0))] {
+    for (file, answer) in [(vec![3, 3, 10], refused(1, 2)), (vec![0; FILE_BYTES + 1], refused(9, 0))] {
         let mut table = vec![7; E::TABLE_WORDS + 1];
         assert_eq!(verdict::<E>(&file, &mut table), answer);
         assert!(table.iter().all(|&word| word == 7));
@@ -152,6 +153,20 @@ fn a_key_may_stand_for_all_names_outside_a_class<E: Edition>() {
     assert_eq!(verdict(&file(143), &mut table), Answer::Confined { facts: 152 });
     assert!(table.guest().eq([3, 6]));
     assert_eq!(verdict(&file(144), &mut table), refused(5, 28));
+}
+
+/// Label 6, which the guest is granted, holds label 5, which is forbidden, under name 4. The masks of the whole file say what names are of the class.
+fn a_guest_may_be_held_to_a_class<E: Edition>() {
+    let host = [2, 5, 1, 0, 3, 5, 2, 6, 1, 0, 5, 2, 0, 255, 8, 2, 6, 7, 6, 4, 5, 6, 2];
+    let mut table = Table::<E>::new();
+    let mut held = |profile: &[u8]| verdict(&[&host, profile].concat(), &mut table);
+    for every_name in [&[][..], &[9, 0]] {
+        assert_eq!(held(every_name), Answer::Leaks { label: 5, guest: 3, facts: 314 });
+    }
+    assert_eq!(held(&[9, 1]), Answer::Confined { facts: 22 });
+    assert_eq!(held(&[9, 1, 1, 4, 3]), Answer::Leaks { label: 5, guest: 3, facts: 33 });
+    assert_eq!(held(&[9, 8]), refused(5, 23));
+    assert_eq!(held(&[9, 1, 9, 1]), refused(6, 25));
 }
 
 /// It adds no fact, whatever it returns. Its variable is judged as any other is, and a scope that is neither 0 nor a function is still refused.
