@@ -7,6 +7,7 @@ pub mod lists;
 pub mod maze;
 pub mod module;
 pub mod ordinary;
+pub mod profiled;
 pub mod turned;
 pub mod worst;
 

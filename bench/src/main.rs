@@ -21,11 +21,12 @@ const GRINGO_LIMIT: Duration = Duration::from_secs(60);
 type Section = fn(Duration);
 
 /// The sections in their order, each with its word.
-const SECTIONS: [(&str, Section); 7] = [
+const SECTIONS: [(&str, Section); 8] = [
     ("files", |limit| Edition::BOTH.into_iter().for_each(|edition| groups(edition, limit))),
     ("width", widths),
     ("keys", keys),
     ("returns", modules),
+    ("profiles", profiles),
     ("clingo", |_| clingo()),
     ("stack", |_| stack()),
     ("side-by-side", eights),
@@ -118,6 +119,15 @@ fn modules(limit: Duration) {
     for edition in Edition::BOTH {
         let files = lists::modules(edition);
         twos(edition, "returns at the top level", ["without", "with returns"], files, limit);
+    }
+}
+
+/// The same files without and with a profile whose class has every name, and files with guests held to half of the names.
+fn profiles(limit: Duration) {
+    for edition in Edition::BOTH {
+        let files = lists::held_to_every_name_files(edition);
+        twos(edition, "a profile with every name", ["without", "with profile"], files, limit);
+        section(edition, "guests held to half of the names", limit, lists::held_to_half_files(edition));
     }
 }
 

@@ -1,6 +1,6 @@
 //! Two calls of the archive that must answer alike: what four words a row cost where one would do, by a file in both
 //! editions; what outside keys cost, by a file under class keys and the same under outside keys; what returns at the top
-//! level cost, by a file without and with them.
+//! level cost, and a profile whose class has every name, by a file without and with them.
 
 use crate::archive::measured;
 use crate::compared::{checked, least, ROUNDS, SHORT};

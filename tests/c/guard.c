@@ -24,7 +24,7 @@ static const struct {
 
 static const uint8_t confined[] = {2, 5, 1, 0, 3, 5, 5, 2, 0, 255, 8, 2, 5};
 static const uint8_t leaks[] = {2, 5, 1, 0, 3, 5, 5, 2, 0, 255, 8, 2, 5, 6, 2};
-static const uint8_t unknown_kind[] = {3, 3, 10};
+static const uint8_t unknown_kind[] = {3, 3, 0};
 static const uint8_t cut_short[] = {3, 3, 2, 5, 1};
 static const uint8_t bad_variable[] = {6, 1};
 static const uint8_t bad_label[] = {2, 4, 1, 0};

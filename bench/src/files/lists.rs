@@ -4,6 +4,7 @@ use super::filler::{Filler, FILLERS};
 use super::maze::{Maze, Order, Rest, ORDERS};
 use super::module::{calling_label_0, chain_beside_calls, module, without_returns};
 use super::ordinary::{ordinary, ordinary_over};
+use super::profiled::{held_to_every_name, held_to_half};
 use super::turned::{turned, ADDED};
 use super::worst::{worst, Shape, SHAPES};
 use super::{dense, LONGEST};
@@ -12,7 +13,7 @@ use std::ops::RangeInclusive;
 
 pub type Named = (String, Vec<u8>);
 
-/// Two files with the same table: under class keys and under outside keys, or without and with returns at the top level.
+/// Two files with the same table: under class keys and under outside keys, without and with returns at the top level, or without and with a profile.
 pub type Two = (String, [Vec<u8>; 2]);
 
 /// A file, and the edition that it is given to.
@@ -66,6 +67,24 @@ pub fn modules(edition: Edition) -> Vec<Two> {
     }
     files.push(("a chain beside calls of label 0".to_string(), chain_beside_calls(edition)));
     files.into_iter().map(|(name, file)| (name, [without_returns(&file), file])).collect()
+}
+
+/// Ordinary files, dense ones, a course and lures.
+fn some(edition: Edition) -> Vec<Named> {
+    let dense = dense_files(edition, 1..=1).into_iter().take(3);
+    let course = ("longest".to_string(), worst(edition, Shape::Longest, Filler::Mixed, true, 1));
+    let lures = lures(edition).into_iter().take(1).map(|(name, file)| (format!("lures, {name}"), file));
+    ordinary_files(edition).into_iter().take(2).chain(dense).chain([course]).chain(lures).collect()
+}
+
+/// Files without and with a profile whose class has every name.
+pub fn held_to_every_name_files(edition: Edition) -> Vec<Two> {
+    some(edition).into_iter().map(|(name, file)| (name, held_to_every_name(&file))).collect()
+}
+
+/// The same files with guests held to half of the names.
+pub fn held_to_half_files(edition: Edition) -> Vec<Named> {
+    some(edition).into_iter().map(|(name, file)| (name, held_to_half(&file))).collect()
 }
 
 /// Every shape with mixed filler and each of the seeds, and the longest course with every filler, idle ones in the small edition alone.

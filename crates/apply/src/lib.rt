@@ -27,7 +27,7 @@ pub fn apply(
     t: &mut [u64],
     o: usize,
     wide: bool,
-    host: &[u64; 17],
+    host: &[u64; host::WORDS],
     formals: &[u8; 1792],
     first: &[u64; 256],
     second: &[u64; 256],

@@ -3,7 +3,7 @@ use mathlib.Core.List.{List, []}
 use mathlib.Core.Bool.{cond}
 use Prim.Native.Nat.{ℕ}
 use Rattle.layout.specs.Layout.{Class}
-use Rattle.format.specs.Sheet.{Sheet}
+use Rattle.format.specs.Sheet.{Sheet, noProfile}
 use Rattle.format.specs.Fields.{good, refusalOf}
 
 -- a sheet of which only the label types and the variables' owners matter: they alone judge a field
@@ -17,7 +17,7 @@ judging types owners = record {
   owners = owners;
   names = [];
   forbidden = 0;
-  profile = 255;
+  profile = noProfile;
 }
 
 -- what byte b is refused with in a field of class c, 0 where it is good; L is the number of labels

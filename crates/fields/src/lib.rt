@@ -79,7 +79,7 @@ pub fn is_good<'a>(wide: bool, types: &'a [u8], owners: &'a [u8], class: u8, b: 
         13 => owner_of(owners, b) != 1,
         14 => owner_of(owners, b) == 0,
         15 => either(b == 255, b < 32),
-        16 => b <= 7,
+        16 => b < layout::CLASS_COUNT,
         _ => layout::is_key(b),
     }
 }

@@ -44,7 +44,7 @@ unfolding saidOf
 nothing-refused = refl
 
 -- 1: a kind that is no kind, behind a good record too
-pub unknown-kinds : Says ((0 ∷ []) ∷ (27 ∷ 0 ∷ []) ∷ (3 ∷ 3 ∷ 10 ∷ []) ∷ []) ((1, 0) ∷ (1, 0) ∷ (1, 2) ∷ [])
+pub unknown-kinds : Says ((0 ∷ []) ∷ (27 ∷ 0 ∷ []) ∷ (3 ∷ 3 ∷ 0 ∷ []) ∷ []) ((1, 0) ∷ (1, 0) ∷ (1, 2) ∷ [])
 unfolding saidOf
 unknown-kinds = refl
 

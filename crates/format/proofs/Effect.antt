@@ -9,8 +9,9 @@ use native.Mathlib.Decide.{ℕ-discrete}
 use lib.ListN.{getD, replicate}
 use lib.Dec.{eqb, leb, ltb}
 use borrow.Author.Tests.{ne-eqb, eqb-true, eqb-false, leb-true, ltb-true, not-true, not-false}
+use Rattle.layout.specs.Key.{classCount}
 use Rattle.layout.specs.Layout.{variable, fieldsOf}
-use Rattle.format.specs.Sheet.{Sheet, typeOf, ownerOf, known, withMask, withLabel, withForbidden, withFunction, withVariable, withProfile}
+use Rattle.format.specs.Sheet.{Sheet, noProfile, typeOf, ownerOf, known, withMask, withLabel, withForbidden, withFunction, withVariable, withProfile}
 use Rattle.format.specs.Fields.{good, Fits}
 use Rattle.format.specs.Records.{Record, WellFormed, misnamed, twice, after}
 use Rattle.format.proofs.Tests.{and-first, and-second, and-false, or-true}
@@ -33,7 +34,7 @@ pub data Effect (L : ℕ) (s : Sheet) : ℕ → List ℕ → Sheet → Type 0 wh
       → Effect L s 4 (l ∷ vs) (withFunction s l vs)
   declares-variable : (v k n : ℕ) → 2 ≤ v → v ≤ 255 → (k ≡ 0) ⊎ Function (s .types) k → (n ≡ 255) ⊎ ((n < 32) × (k ≡ 0)) → ownerOf s v ≡ 1
       → Effect L s 5 (v ∷ k ∷ n ∷ []) (withVariable s v k n)
-  holds-guests : (c : ℕ) → c ≤ 7 → s .profile ≡ 255 → Effect L s 9 (c ∷ []) (withProfile s c)
+  holds-guests : (c : ℕ) → c < classCount → s .profile ≡ noProfile → Effect L s 9 (c ∷ []) (withProfile s c)
   leaves-sheet : (k : ℕ) (b : List ℕ) → (k ≡ 3 → ⊥) → (k ≡ 9 → ⊥) → Effect L s k b s
 
 -- ---- what good bytes are, as facts
@@ -113,7 +114,7 @@ variable-effect L s (v ∷ k ∷ n ∷ x ∷ xs) f m t = absurd (f .1 .1 .1)
 profile-effect : (L : ℕ) (s : Sheet) (b : List ℕ) → Shown L s b 9
 unfolding Fits good twice after
 profile-effect L s [] f m t = absurd f
-profile-effect L s (c ∷ []) f m t = holds-guests c (leb-true _ _ (f .0)) (equal _ _ t)
+profile-effect L s (c ∷ []) f m t = holds-guests c (ltb-true _ _ (f .0)) (equal _ _ t)
 profile-effect L s (c ∷ x ∷ xs) f m t = absurd (f .1)
 
 -- what holds of each kind that writes to the sheet, and of all others, holds of each

@@ -2,9 +2,10 @@
 use mathlib.Core.Path.{_≡_, refl, sym}
 use mathlib.Core.Logic.{_↔_, _⊎_, inl, inr}
 use mathlib.Core.List.{List, [], _∷_, List·Memᴰ·not-nil}
-use Prim.Native.Nat.{ℕ, _<_, _≤_}
+use Prim.Native.Nat.{ℕ, _<_}
 use native.Mathlib.Omega.{arith}
-use Rattle.format.specs.Sheet.{start}
+use Rattle.layout.specs.Key.{classCount}
+use Rattle.format.specs.Sheet.{noProfile, start}
 use Rattle.format.specs.Records.{Record}
 use Rattle.format.proofs.Ready.{Among, Profile}
 use Rattle.format.proofs.Among.{followed, among-last, among-followed, among-other}
@@ -27,10 +28,10 @@ profile-more ps at k b h x =
     }
 
 -- the one record: before it there was none
-pub profile-given : (ps : List (ℕ × Record)) (at profile c : ℕ) → c ≤ 7 → profile ≡ 255 → Profile profile ps → Profile c (followed ps at 9 (c ∷ []))
+pub profile-given : (ps : List (ℕ × Record)) (at profile c : ℕ) → c < classCount → profile ≡ noProfile → Profile profile ps → Profile c (followed ps at 9 (c ∷ []))
 profile-given ps at profile c h none x =
     record {
-      profile-range = inl (omega arith);
+      profile-range = inl h;
       profile-record = λ d. ((λ e. rw (sym (e .1)) (among-last ps at 9 (c ∷ []))), λ a. cases d (among-followed ps at 9 (c ∷ []) a));
     }
   where

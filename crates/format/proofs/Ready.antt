@@ -6,8 +6,9 @@ use mathlib.Core.List.{List, [], _∷_, List·Memᴰ}
 use Prim.Native.Nat.{ℕ, _+_, _*_, _%_, _^_, _<_, _≤_}
 use lib.ListN.{getD, take, drop}
 use Rattle.words.specs.Words.{bit}
+use Rattle.layout.specs.Key.{classCount}
 use Rattle.layout.specs.Layout.{fieldsOf, bodyLength}
-use Rattle.format.specs.Sheet.{Sheet, typeOf}
+use Rattle.format.specs.Sheet.{Sheet, noProfile, typeOf}
 use Rattle.format.specs.Fields.{Fits}
 use Rattle.format.specs.Records.{Record}
 use Rattle.format.proofs.Effect.{Function}
@@ -79,9 +80,9 @@ pub record Forbidden (L forbidden : ℕ) (ps : List (ℕ × Record)) : Type 0 wh
 
 pub record Profile (profile : ℕ) (ps : List (ℕ × Record)) : Type 0 where
   -- it is a class, or none
-  pub profile-range : (profile < 8) ⊎ (profile ≡ 255)
+  pub profile-range : (profile < classCount) ⊎ (profile ≡ noProfile)
   -- a record holds guests to a class exactly where that is the one
-  pub profile-record : (c : ℕ) → ((c < 8) × (profile ≡ c)) ↔ Among 9 (c ∷ []) ps
+  pub profile-record : (c : ℕ) → ((c < classCount) × (profile ≡ c)) ↔ Among 9 (c ∷ []) ps
 
 -- s is the sheet that the records ps make
 pub record Made (L : ℕ) (s : Sheet) (ps : List (ℕ × Record)) : Type 0 where

@@ -7,7 +7,7 @@ use mathlib.Core.Bool.{Bool, true, cond, not, _&&_, _||_}
 use Prim.Native.Nat.{ℕ, _%_}
 use lib.Dec.{eqb, leb, ltb}
 use Rattle.layout.specs.Layout.{Class, name, mask, newLabel, type, flag, anyLabel, hostLabel, functionLabel, plainLabel, dataLabel, scope, newVariable, variable, declaredVariable, globalVariable, variableName, nameClass, key}
-use Rattle.layout.specs.Key.{isKey}
+use Rattle.layout.specs.Key.{classCount, isKey}
 use Rattle.format.specs.Sheet.{Sheet, typeOf, declared, ownerOf, known}
 
 -- byte b is good in a field of the class
@@ -28,7 +28,7 @@ good L s variable b = eqb b 0 || known s b
 good L s declaredVariable b = known s b
 good L s globalVariable b = eqb (ownerOf s b) 0
 good L s variableName b = eqb b 255 || ltb b 32
-good L s nameClass b = leb b 7
+good L s nameClass b = ltb b classCount
 good L s key b = isKey b
 
 -- "3 for a bad variable byte, 4 a bad label or scope, 5 a bad name, key, mask, type or flag"; "A c above 7 is

@@ -7,7 +7,7 @@ use Prim.Native.Nat.{ℕ, _<_}
 use lib.ListN.{getD, drop}
 use lib.Dec.{eqb}
 use Rattle.layout.specs.Layout.{fieldsOf, bodyLength}
-use Rattle.format.specs.Sheet.{Sheet, known, declared, withMask, withLabel, withForbidden, withFunction, withVariable, withProfile}
+use Rattle.format.specs.Sheet.{Sheet, noProfile, known, declared, withMask, withLabel, withForbidden, withFunction, withVariable, withProfile}
 use Rattle.format.specs.Fields.{Fits, firstBad}
 
 -- "one byte of kind, then a body"
@@ -31,7 +31,7 @@ twice s k b =
     (cond (eqb k 2) (declared s n)
     (cond (eqb k 4) (not (eqb (getD (s .defined) n 0) 0))
     (cond (eqb k 5) (known s n)
-    (cond (eqb k 9) (not (eqb (s .profile) 255))
+    (cond (eqb k 9) (not (eqb (s .profile) noProfile))
     false))))
 
 -- the sheet with the record of kind k and body b

@@ -17,7 +17,11 @@ pub record Sheet : Type 0 where
   pub owners : List ℕ  -- of each variable its owner scope, 1 where it is not declared
   pub names : List ℕ  -- of each variable its name, 255 for none
   pub forbidden : ℕ  -- the forbidden labels, bit l for label l
-  pub profile : ℕ  -- the class of names that guests are held to, 255 for none
+  pub profile : ℕ  -- the class of names that guests are held to, `noProfile` where no record says so
+
+-- no class has this number
+abbrev pub noProfile : ℕ
+noProfile = 255
 
 -- "0 global object, 1 Object.prototype, 2 Function.prototype, 3 whatever the guest makes, 4 Array.prototype. These are declared
 -- beforehand; 1, 2, 4 are built-in; 3 is a function, all four others plain." "Function 3 has 1 as this and all formals". No scope is label 1,
@@ -32,7 +36,7 @@ start L = record {
   owners = replicate 256 1;
   names = replicate 256 255;
   forbidden = 0;
-  profile = 255;
+  profile = noProfile;
 }
 
 -- ---- what the sheet says

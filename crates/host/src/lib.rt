@@ -9,21 +9,25 @@ pub mod handed;
 
 use sets::Set;
 
-const BUILT_INS: usize = 4;
+// Where the labels of built-in objects begin in the array, where the names of each class, and where the guest's class stands.
+pub const BUILT_INS: usize = 4;
 
-const CLASSES: usize = 8;
+pub const CLASSES: usize = 8;
 
-const GUEST_CLASS: usize = 16;
+pub const GUEST_CLASS: usize = 16;
+
+// How many words the array has.
+pub const WORDS: usize = 17;
 
 // The labels of functions.
-pub fn functions(host: &[u64; 17], wide: bool) -> Set
+pub fn functions(host: &[u64; WORDS], wide: bool) -> Set
     ensures { λ r. ⌜ value wide r ≡ functionsIn wide (now (host .entry)) ⌝ }
 {
     lent::row(host, 0, wide, 0)
 }
 
 // The labels of built-in objects.
-pub fn built_ins(host: &[u64; 17], wide: bool) -> Set
+pub fn built_ins(host: &[u64; WORDS], wide: bool) -> Set
     ensures { λ r. ⌜ value wide r ≡ builtInsIn wide (now (host .entry)) ⌝ }
 {
     lent::row(host, BUILT_INS, wide, 0)
@@ -33,7 +37,7 @@ pub fn built_ins(host: &[u64; 17], wide: bool) -> Set
 const ALL_NAMES: u64 = 0xffffffff;
 
 // The names of a key, as a word.
-pub fn names(host: &[u64; 17], key: u8) -> u64
+pub fn names(host: &[u64; WORDS], key: u8) -> u64
     requires { ⌜ Key key ⌝ }
     ensures { λ r. ⌜ r ≡ namesIn (now (host .entry)) key ⌝ }
 {
@@ -48,7 +52,7 @@ pub fn names(host: &[u64; 17], key: u8) -> u64
 }
 
 // The key of the guest's class.
-pub fn guest_key(host: &[u64; 17]) -> u8
+pub fn guest_key(host: &[u64; WORDS]) -> u8
     ensures { λ r. ⌜ (r ≡ guestKeyIn (now (host .entry))) × Key r ⌝ }
 {
     layout::INSIDE + ((host[GUEST_CLASS] % 8) as u8)

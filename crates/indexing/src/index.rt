@@ -70,7 +70,7 @@ fn entries(file: &[u8], at: usize, kind: u8) -> Set {
 // Enters what the record at `at` reads.
 fn enter_reads(
     file: &[u8],
-    host: &[u64; 17],
+    host: &[u64; host::WORDS],
     index: &mut [u64; 256],
     notes: &mut [u64; 256],
     at: usize,
@@ -85,7 +85,7 @@ fn enter_reads(
 fn enter(
     wide: bool,
     file: &[u8],
-    host: &[u64; 17],
+    host: &[u64; host::WORDS],
     low: &mut [u64; 256],
     high: &mut [u64; 256],
     index: &mut [u64; 256],
@@ -107,7 +107,7 @@ fn enter(
 pub fn index_file(
     wide: bool,
     file: &[u8],
-    host: &[u64; 17],
+    host: &[u64; host::WORDS],
     low: &mut [u64; 256],
     high: &mut [u64; 256],
     index: &mut [u64; 256],

@@ -82,7 +82,7 @@ pub fn chain(t: &[u64], wide: bool, l: u8) -> Set
 }
 
 // The names that a key stands for.
-fn names_of(host: &[u64; 17], key: u8) -> u64 {
+fn names_of(host: &[u64; host::WORDS], key: u8) -> u64 {
     if layout::is_key(key) {
         return host::names(host, key);
     }
@@ -99,7 +99,7 @@ fn name_of(name: u8) -> u64 {
 }
 
 // The names under which the record at `at` looks.
-pub fn names_read(file: &[u8], host: &[u64; 17], at: usize) -> u64 {
+pub fn names_read(file: &[u8], host: &[u64; host::WORDS], at: usize) -> u64 {
     match byte(file, at, 0) {
         5 => name_of(byte(file, at, 3)),
         17 => names_of(host, byte(file, at, 4)),
@@ -110,7 +110,7 @@ pub fn names_read(file: &[u8], host: &[u64; 17], at: usize) -> u64 {
 }
 
 // The names under which it stores.
-pub fn names_written(file: &[u8], host: &[u64; 17], at: usize) -> u64 {
+pub fn names_written(file: &[u8], host: &[u64; host::WORDS], at: usize) -> u64 {
     match byte(file, at, 0) {
         5 => name_of(byte(file, at, 3)),
         18 => names_of(host, byte(file, at, 3)),
@@ -141,7 +141,7 @@ pub fn owners(t: &[u64], wide: bool, file: &[u8], at: usize) -> Set
 }
 
 // The functions that it may call, as far as the table tells; for a prim all functions.
-pub fn callees(t: &[u64], wide: bool, file: &[u8], host: &[u64; 17], at: usize) -> Set
+pub fn callees(t: &[u64], wide: bool, file: &[u8], host: &[u64; host::WORDS], at: usize) -> Set
     requires { ⌜ wordCount wide ≤ length (now t) ⌝ }
 {
     let functions = host::functions(host, wide);

@@ -7,6 +7,7 @@ ghost use lib.ListN.{length, take, replicate};
 ghost use lib.Dec.{eqb, ltb};
 ghost use Rattle.words.specs.Words.{bit, union};
 ghost use Rattle.rows.specs.Edition.{labels};
+ghost use Rattle.layout.specs.Key.{classCount};
 ghost use Rattle.format.specs.Reading.{readFile, Readable};
 ghost use Rattle.program.specs.Program.{Program, programOf};
 ghost use Rattle.sets.specs.Value.{value};
@@ -17,12 +18,6 @@ ghost use Rattle.laying.specs.Marked.{Whole, withMark, Marked, MarkedAt}
 use rows::Label;
 use rows::Var;
 use sets::Set;
-
-const BUILT_INS: usize = 4;
-
-const CLASSES: usize = 8;
-
-const GUEST_CLASS: usize = 16;
 
 fn label(l: usize) -> Label
     requires { ⌜ l < 256 ⌝ }
@@ -80,22 +75,26 @@ fn class_names(masks: &[u8; 32], class: usize) -> u64
 }
 
 // The names of each class.
-fn lay_names(masks: &[u8; 32], host: &mut [u64; 17])
+fn lay_names(masks: &[u8; 32], host: &mut [u64; host::WORDS])
     requires { ⌜ length (now host) ≡ 17 ⌝ }
     ensures { λ _. ⌜ Classes 8 (now (masks .entry)) (now (host .entry)) (now (host .exit)) × (length (now (host .exit)) ≡ 17) ⌝ }
 {
     let mut c: usize = 0;
     while c < 8 {
-        host[CLASSES + c] = class_names(masks, c);
+        host[host::CLASSES + c] = class_names(masks, c);
         c += 1;
     }
 }
 
 // The class of names that the guest is held to: class 0, which has every name, where no record gives one.
 fn class_of(profile: u8) -> u64
-    ensures { λ r. ⌜ r ≡ cond (ltb profile 8) profile 0 ⌝ }
+    ensures { λ r. ⌜ r ≡ cond (ltb profile classCount) profile 0 ⌝ }
 {
-    if profile < 8 { profile as u64 } else { 0 }
+    if profile < layout::CLASS_COUNT {
+        profile as u64
+    } else {
+        0
+    }
 }
 
 // The array `host` of the program whose labels have these types and flags, whose names have these masks and whose guest has this profile.
@@ -105,7 +104,7 @@ pub fn lay(
     flags: &[u8; 256],
     masks: &[u8; 32],
     profile: u8,
-    host: &mut [u64; 17],
+    host: &mut [u64; host::WORDS],
 )
     requires { ⌜ length (now host) ≡ 17 ⌝ }
     ensures { λ _. ⌜ ((p : Program) → p .sheet .types ≡ take (labels wide) (now (types .entry)) → p .sheet .flags ≡ take (labels wide) (now (flags .entry)) → p .sheet .masks ≡ now (masks .entry) → p .sheet .profile ≡ profile → Lays wide p (now (host .exit))) ⌝ }
@@ -113,9 +112,9 @@ pub fn lay(
     let functions = labels_with(wide, types, 2);
     lent::write(host, 0, wide, 0, functions);
     let built_ins = labels_with(wide, flags, 1);
-    lent::write(host, BUILT_INS, wide, 0, built_ins);
+    lent::write(host, host::BUILT_INS, wide, 0, built_ins);
     lay_names(masks, host);
-    host[GUEST_CLASS] = class_of(profile);
+    host[host::GUEST_CLASS] = class_of(profile);
 }
 
 // Variable x, among those of the f-th function of an array.

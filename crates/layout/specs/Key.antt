@@ -12,6 +12,10 @@ inside = 128
 abbrev pub outside : ℕ
 outside = 136
 
+-- "c from 0 to 7": how many classes of names there are
+abbrev pub classCount : ℕ
+classCount = 8
+
 -- the first byte behind them: "144 is refused" (request 01)
 abbrev pub keysEnd : ℕ
 keysEnd = 144

@@ -104,6 +104,9 @@ pub const INSIDE: u8 = 128;
 // The key of the names outside class 0, none; those outside classes 1 to 7 follow.
 pub const OUTSIDE: u8 = 136;
 
+// How many classes of names there are.
+pub const CLASS_COUNT: u8 = 8;
+
 // The first byte behind the keys.
 const KEYS_END: u8 = 144;
 

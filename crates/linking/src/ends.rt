@@ -101,7 +101,7 @@ pub fn ends_written(
     wide: bool,
     t: &[u64],
     file: &[u8],
-    host: &[u64; 17],
+    host: &[u64; host::WORDS],
     formals: &[u8; 1792],
     at: usize,
 ) -> Ends
@@ -196,7 +196,7 @@ pub fn ends_read(
     wide: bool,
     t: &[u64],
     file: &[u8],
-    host: &[u64; 17],
+    host: &[u64; host::WORDS],
     first: &[u64; 256],
     second: &[u64; 256],
     third: &[u64; 256],

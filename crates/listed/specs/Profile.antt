@@ -44,7 +44,7 @@ pub repeated-line : verdictOf (only (9 ∷ 0 ∷ 9 ∷ 1 ∷ [])) ≡ refused 6 
 unfolding verdictOf only
 repeated-line = refl
 
--- "a verdict that knows it raises fewer alarms": the guest cannot load by a name that is not of its class
+-- the guest cannot load by a name that is not of its class, and there are fewer alarms
 pub field-line : verdictOf (field []) ≡ leaks 5 3 315
 unfolding verdictOf field
 field-line = refl
@@ -73,6 +73,19 @@ listener-held-line = refl
 pub listener-named-line : verdictOf (listener (9 ∷ 1 ∷ 1 ∷ 4 ∷ 3 ∷ []) 4) ≡ leaks 5 3 46
 unfolding verdictOf listener
 listener-named-line = refl
+
+-- what hangs on the prototype property: the host finds it in a function of the guest's
+pub property-line : verdictOf (listener [] 3) ≡ leaks 5 3 327
+unfolding verdictOf listener
+property-line = refl
+
+pub property-absent-line : verdictOf (listener (9 ∷ 1 ∷ []) 3) ≡ confined 27
+unfolding verdictOf listener
+property-absent-line = refl
+
+pub property-named-line : verdictOf (listener (9 ∷ 1 ∷ 1 ∷ 3 ∷ 3 ∷ []) 3) ≡ leaks 5 3 48
+unfolding verdictOf listener
+property-named-line = refl
 
 -- its new looks up name 3 all the same
 pub constructor-named-line : verdictOf (constructor (9 ∷ 1 ∷ 1 ∷ 4 ∷ 3 ∷ []) 4) ≡ leaks 5 3 52

@@ -69,7 +69,7 @@ fn hand_all(
 }
 
 // The functions among the labels of s.
-fn functions_in(host: &[u64; 17], wide: bool, s: Set) -> Set
+fn functions_in(host: &[u64; host::WORDS], wide: bool, s: Set) -> Set
     ensures { λ r. ⌜ value wide r ≡ bitAnd (value wide s) (functionsIn wide (now (host .entry))) ⌝ }
 {
     sets::meet(wide, s, host::functions(host, wide))
@@ -80,7 +80,7 @@ pub fn call(
     t: &mut [u64],
     o: usize,
     wide: bool,
-    host: &[u64; 17],
+    host: &[u64; host::WORDS],
     formals: &[u8; 1792],
     first: &[u64; 256],
     second: &[u64; 256],
@@ -120,7 +120,7 @@ fn make_object(
     t: &mut [u64],
     o: usize,
     wide: bool,
-    host: &[u64; 17],
+    host: &[u64; host::WORDS],
     keeps: &mut [u64; 256],
     y: Var,
     callee: Var,
@@ -143,7 +143,7 @@ pub fn make_new(
     t: &mut [u64],
     o: usize,
     wide: bool,
-    host: &[u64; 17],
+    host: &[u64; host::WORDS],
     formals: &[u8; 1792],
     first: &[u64; 256],
     second: &[u64; 256],
@@ -196,7 +196,7 @@ pub fn convert(
     t: &mut [u64],
     o: usize,
     wide: bool,
-    host: &[u64; 17],
+    host: &[u64; host::WORDS],
     formals: &[u8; 1792],
     keeps: &mut [u64; 256],
     k: Label,

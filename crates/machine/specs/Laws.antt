@@ -1,6 +1,6 @@
 -- The laws of the machine, in the words of document 01, "The handset machine": what a step can bring about from any state, whatever the program, in a
 -- frame f of scope k; what no step takes back; what a return at top level does after any run (request 02); what stands at the start. A machine that does
--- less than one of these sentences says breaks its law, and so does one that does more on such a return. The files of proofs/ prove them.
+-- less than one of these sentences says breaks its law, and so does one that does more where a law says that nothing happens. The files of proofs/ prove them.
 -- Assumes nothing.
 use mathlib.Core.Path.{_≡_}
 use mathlib.Core.Logic.{_⊎_}

@@ -79,7 +79,7 @@ fn statement(key: u8, prototyped: bool, i: usize) -> Statement
 }
 
 // Whether name 3 is one of the key's.
-fn is_prototyped(host: &[u64; 17], key: u8) -> bool
+fn is_prototyped(host: &[u64; host::WORDS], key: u8) -> bool
     requires { ⌜ Key key ⌝ }
     ensures { λ r. ⌜ r ≡ eqb (bit (namesIn (now (host .entry)) key) 3) 1 ⌝ }
 {
@@ -92,7 +92,7 @@ pub fn guest(
     t: &mut [u64],
     o: usize,
     wide: bool,
-    host: &[u64; 17],
+    host: &[u64; host::WORDS],
     formals: &[u8; 1792],
     first: &[u64; 256],
     second: &[u64; 256],

@@ -1,7 +1,7 @@
 -- A file with the record beside the file without it: it adds no fact, what is confined stays confined and what is accepted accepted, and where the class has
 -- every name nothing changes. Assumes nothing.
 use mathlib.Core.Path.{_≡_, refl, sym, ap, subst, _∙_}
-use mathlib.Core.List.{List, _∷_, _++_}
+use mathlib.Core.List.{List, [], _∷_, _++_}
 use mathlib.Core.Bool.{true, cond}
 use Prim.Native.Nat.{ℕ, zero, suc, _+_, _*_, _^_, _≤_, _<_}
 use native.Mathlib.Omega.{arith}
@@ -11,7 +11,8 @@ use Rattle.layout.specs.Key.{inside}
 use Rattle.rows.specs.Row.{rowCount}
 use Rattle.rows.specs.Run.{roomFor, rowsOf, laid}
 use Rattle.answer.specs.Outcome.{refused}
-use Rattle.rules.specs.Table.{Table, Within, emptyTable}
+use Rattle.rules.specs.Table.{Table, Within, facts, emptyTable}
+use Rattle.rules.proofs.Table.{facts-within}
 use Rattle.rules.specs.Rule.{Rule}
 use Rattle.rules.specs.Told.{Closed}
 use Rattle.rules.specs.Round.{leastAbove}
@@ -22,7 +23,7 @@ use Rattle.program.proofs.Names.{every-name-inside}
 use Rattle.analysis.specs.Rules.{rules}
 use Rattle.analysis.specs.Verdict.{leastTable}
 use Rattle.analysis.proofs.Proper.{readable-proper}
-use Rattle.analysis.proofs.Least.{table-within, table-closed}
+use Rattle.analysis.proofs.Least.{table-within, table-length, table-closed}
 use Rattle.verdicts.specs.Verdict.{forbiddenHeld, judged, programIn, verdictOutcome, verdictTable, verdictWords, Confined}
 use Rattle.verdicts.specs.Check.{declaredWord, masked, cleaned, checked, checkOutcome, Accepts}
 use Rattle.verdicts.proofs.Lists.{not-refused, accepted-closed, closed-accepted}
@@ -30,7 +31,7 @@ use Rattle.verdicts.proofs.Demand.{accepted-confined, confined-iff}
 use Rattle.machine.specs.Step.{Move, run}
 use Rattle.machine.specs.Start as machine
 use Rattle.toplevel.proofs.Silent.{admitted-same}
-use Rattle.profiles.specs.Profiles.{HasEveryName, Unchanged, Held}
+use Rattle.profiles.specs.Profiles.{heldGuest, HasEveryName, Unchanged, Held}
 use Rattle.profiles.proofs.Read.{unheld-free, Beside}
 use Rattle.profiles.proofs.Guest.{NamesInside, freeProgram, heldProgram, program-without, program-with, class-within, every-named}
 use Rattle.profiles.proofs.Told.{closed-fewer, rules-same}
@@ -46,7 +47,8 @@ cleaned-same : (L : ℕ) (s : Sheet) (c : ℕ) (t : Table) → cleaned L (withPr
 unfolding cleaned
 cleaned-same L s c t = ap (λ (w : ℕ). 0 ∷ masked w (drop 1 (take (rowCount L) t))) (word-same L s c)
 
-module _ (L : ℕ) (five : 5 ≤ L) (ys xs : List ℕ) (c : ℕ) (ok : Readable L xs) (ok-without : Readable L ys) (b : Beside (readFile L ys) (readFile L xs) c) where
+module _ (L : ℕ) (five : 5 ≤ L) (ys xs : List ℕ) (c : ℕ) (ok : Readable L xs) (ok-without : Readable L ys)
+    (b : Beside (readFile L ys) (readFile L xs) c) where
   abbrev s : Sheet
   s = readFile L ys .sheet
 
@@ -77,6 +79,11 @@ module _ (L : ℕ) (five : 5 ≤ L) (ys xs : List ℕ) (c : ℕ) (ok : Readable 
   fewer =
       table-within L (programIn L xs) (leastTable L (programIn L ys))
       (closed (leastTable L (programIn L ys)) (table-closed L (programIn L ys) (readable-proper L ys five ok-without)))
+
+  count : facts L (leastTable L (programIn L xs)) ≤ facts L (leastTable L (programIn L ys))
+  count =
+      facts-within L (leastTable L (programIn L xs)) (leastTable L (programIn L ys))
+      (table-length L (programIn L xs) (readable-proper L xs five ok) ∙ sym (table-length L (programIn L ys) (readable-proper L ys five ok-without))) fewer
 
   accepted : (t : Table) → Accepts L ys t → Accepts L xs t
   unfolding programOf forbiddenHeld
@@ -162,7 +169,9 @@ module _ (L : ℕ) (five : 5 ≤ L) (ys xs : List ℕ) (c : ℕ) (ok : Readable 
         readable-without = ok-without;
         free = unheld-free L five ys ok-without (b .unheld);
         sheet = b .sheet;
+        guest = ap (λ (p : Program). p .guests) is-held ∙ sym (ap (λ (u : Sheet). heldGuest u c ∷ []) (b .sheet));
         fewer = fewer;
+        count = count;
         confined = confined;
         accepted = accepted;
         unchanged = unchanged;

@@ -2,10 +2,10 @@
 use mathlib.Core.Path.{_≡_, sym, ap, subst, _∙_}
 use mathlib.Core.List.{List, [], _∷_, _++_, List·Memᴰ, List·Memᴰ·head, List·Memᴰ·tail, List·Memᴰ·not-nil, Memᴰ·append-right}
 use mathlib.Core.Bool.{false}
-use Prim.Native.Nat.{ℕ, _+_, _≤_}
+use Prim.Native.Nat.{ℕ, _+_, _≤_, _<_}
 use native.Mathlib.Omega.{arith}
 use lib.ListN.{length, take, drop}
-use borrow.Author.Tests.{leb-true}
+use borrow.Author.Tests.{ltb-true}
 use Rattle.format.specs.Sheet.{Sheet, start, withProfile}
 use Rattle.format.specs.Fields.{good, Fits}
 use Rattle.format.specs.Records.{Record, twice, after}
@@ -42,7 +42,7 @@ module _ (L : ℕ) (xs : List ℕ) (ok : Readable L xs) (at c : ℕ) where
       go p =
           let made : Sheet = sheetAfter (start L) (p .before) in
           let w = well-formed-append L (start L) (p .before) (profile c ∷ p .behind) .0 (subst (AllWellFormed L (start L)) (p .all) (whole .well-formed)) in
-          let class : c ≤ 7 = leb-true c 7 (w .1 .0 .fits .0) in
+          let class : c < 8 = ltb-true c 8 (w .1 .0 .fits .0) in
           let none : Unprofiled (p .behind) = only-one L made c class (p .behind) (w .1 .1) in
           let bytes : xs ≡ written (p .before ++ (profile c ∷ p .behind)) = whole .bytes ∙ ap written (p .all) in
           let sheet : sheetAfter (start L) (whole .records) ≡ withProfile (sheetAfter (start L) (p .before ++ p .behind)) c =
@@ -76,7 +76,7 @@ standing a [] r m = absurd (List·Memᴰ·not-nil m)
 standing a (q ∷ rs) r (List·Memᴰ·head e) = (a, List·Memᴰ·head (ap (λ (x : Record). (a, x)) e))
 standing a (q ∷ rs) r (List·Memᴰ·tail m) = let s = standing (a + 1 + length (q .body)) rs r m in (s .0, List·Memᴰ·tail (s .1))
 
-module _ (L : ℕ) (five : 5 ≤ L) (before : List Record) (bytes : List ℕ) (c : ℕ) (class : c ≤ 7) (first : AllWellFormed L (start L) before) where
+module _ (L : ℕ) (five : 5 ≤ L) (before : List Record) (bytes : List ℕ) (c : ℕ) (class : c < 8) (first : AllWellFormed L (start L) before) where
   abbrev at : ℕ
   at = 0 + length (written before)
 

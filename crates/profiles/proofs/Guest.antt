@@ -3,7 +3,7 @@
 use mathlib.Core.Path.{_≡_, refl, sym, ap, ap₂, _∙_}
 use mathlib.Core.List.{List, [], _∷_, _++_, List·Memᴰ}
 use mathlib.Core.Bool.{Bool, true, false}
-use Prim.Native.Nat.{ℕ, zero, suc, _+_, _≤_, _<_}
+use Prim.Native.Nat.{ℕ, zero, suc, _+_, _<_}
 use native.Mathlib.Omega.{arith}
 use borrow.Author.Tests.{lt-ltb}
 use Rattle.layout.specs.Key.{inside}
@@ -17,16 +17,12 @@ use Rattle.program.specs.Program.{Guest, Program, guestStatements, guestsStatem
 use Rattle.program.proofs.Held.{class-names, made-either}
 use Rattle.toplevel.proofs.Bare.{bare}
 use Rattle.toplevel.proofs.Told.{returnsAmong}
-use Rattle.profiles.specs.Profiles.{freeGuest}
+use Rattle.profiles.specs.Profiles.{freeGuest, heldGuest}
 use Rattle.profiles.proofs.Read.{Beside}
 
 -- the guest of class c, by whether its functions have a prototype property; document 01's is that of class 0, with it
 abbrev pub guestBy : Sheet → ℕ → Bool → Guest
 guestBy s c b = record { label = 3; bag = bag; key = inside + c; prototyped = b; forbidden = s .forbidden }
-
--- the guest that is held to class c
-abbrev pub heldGuest : Sheet → ℕ → Guest
-heldGuest s c = guestBy s c (inClass s c 3)
 
 -- every name is of class 0
 abbrev pub NamesInside : Sheet → Type 0
@@ -46,7 +42,7 @@ free-guest s none names =
     let zero : guestClass s ≡ 0 = rw none in
     guest-of s 0 zero ∙ ap (λ (b : Bool). guestBy s 0 b ∷ []) (inside-zero s names 3 (omega arith))
 
-pub held-guest : (s : Sheet) (c : ℕ) → c ≤ 7 → guestsOf (withProfile s c) ≡ heldGuest s c ∷ []
+pub held-guest : (s : Sheet) (c : ℕ) → c < 8 → guestsOf (withProfile s c) ≡ heldGuest s c ∷ []
 held-guest s c h =
     let own : guestClass (withProfile s c) ≡ c = rw (lt-ltb c 8 (omega arith)) in
     guest-of (withProfile s c) c own
@@ -96,7 +92,7 @@ guest-returns f g ss = rw (made-either (λ (a : say.Statement). returnedBy f a �
 
 -- ---- its names
 
-pub class-within : (s : Sheet) (c : ℕ) → c ≤ 7 → NamesInside s → (n : ℕ) → List·Memᴰ n (namesOf s (inside + c)) → List·Memᴰ n (namesOf s inside)
+pub class-within : (s : Sheet) (c : ℕ) → c < 8 → NamesInside s → (n : ℕ) → List·Memᴰ n (namesOf s (inside + c)) → List·Memᴰ n (namesOf s inside)
 class-within s c h names n m = names n (chosen-passes (inClass s c) 32 n (rw (class-names s c (omega arith)) at m) .0)
 
 -- tests that say the same below n choose the same
@@ -107,7 +103,7 @@ chosen-alike f g (suc n) e =
     ap₂ (λ (b : Bool) (xs : List ℕ). elim b [ true ↦ xs ++ (n ∷ []) | false ↦ xs ]) (e n (omega arith)) (chosen-alike f g n (λ x h. e x (omega arith)))
 
 -- where its class has every name they are all names
-pub every-named : (s : Sheet) (c : ℕ) → c ≤ 7 → NamesInside s → ((n : ℕ) → n < 32 → inClass s c n ≡ true)
+pub every-named : (s : Sheet) (c : ℕ) → c < 8 → NamesInside s → ((n : ℕ) → n < 32 → inClass s c n ≡ true)
     → namesOf s (inside + c) ≡ namesOf s inside
 every-named s c h names all =
     class-names s c (omega arith) ∙ chosen-alike (inClass s c) (inClass s 0) 32 (λ n i. all n i ∙ sym (inside-zero s names n i))

@@ -4,10 +4,10 @@ use mathlib.Core.Path.{_≡_, refl, sym, ap, subst, _∙_}
 use mathlib.Core.Logic.{inl, inr}
 use mathlib.Core.List.{List, [], _∷_, _++_, List·Memᴰ}
 use mathlib.Core.Bool.{false}
-use Prim.Native.Nat.{ℕ, _+_, _≤_}
+use Prim.Native.Nat.{ℕ, _+_, _≤_, _<_}
 use native.Mathlib.Omega.{arith}
 use lib.ListN.{length, length-append}
-use borrow.Author.Tests.{le-leb}
+use borrow.Author.Tests.{lt-ltb}
 use Rattle.layout.specs.Layout.{fieldsOf}
 use Rattle.format.specs.Sheet.{Sheet, start, withProfile}
 use Rattle.format.specs.Fields.{good, Fits}
@@ -53,14 +53,14 @@ module _ (L : ℕ) (five : 5 ≤ L) (xs : List ℕ) (ok : Readable L xs) where
 
 -- d is what is read without the record, e with it
 pub record Beside (d e : Reading) (c : ℕ) : Type 0 where
-  pub class : c ≤ 7
+  pub class : c < 8
   pub unheld : d .sheet .profile ≡ 255
   pub sheet : e .sheet ≡ withProfile (d .sheet) c
   pub host : bare (hostStatements (e .records)) ≡ bare (hostStatements (d .records))
 
 -- the records before the one and behind it, as they are read without it
 pub record Around (L : ℕ) (before behind : List Record) (c : ℕ) : Type 0 where
-  pub class : c ≤ 7
+  pub class : c < 8
   pub first : AllWellFormed L (start L) before
   pub second : AllWellFormed L (sheetAfter (start L) before) behind
   pub unheld : sheetAfter (start L) before .profile ≡ 255
@@ -89,7 +89,7 @@ module _ (L : ℕ) (before behind : List Record) (c : ℕ) (w : Around L before 
   record-well-formed : WellFormed L made (profile c)
   unfolding Fits good misnamed twice
   record-well-formed =
-      record { kind-known = omega arith; fits = (le-leb c 7 (w .class), tt); well-named = refl; once = rw (w .unheld) }
+      record { kind-known = omega arith; fits = (lt-ltb c 8 (w .class), tt); well-named = refl; once = rw (w .unheld) }
 
   shorter : length (written (before ++ behind)) ≤ longest
   unfolding written

@@ -4,7 +4,7 @@ use mathlib.Core.Path.{_≡_, refl, sym, ap, subst, _∙_}
 use mathlib.Core.Logic.{_↔_, _⊎_, inl, inr}
 use mathlib.Core.List.{List, [], _∷_, _++_, List·Memᴰ, List·Memᴰ·head, List·Memᴰ·tail, List·Memᴰ·cases-cons, List·Memᴰ·not-nil}
 use mathlib.Core.Bool.{Bool, true, false, cond, true≢false}
-use Prim.Native.Nat.{ℕ, _≤_}
+use Prim.Native.Nat.{ℕ, _<_}
 use native.Mathlib.Omega.{arith}
 use lib.ListN.{drop}
 use lib.Dec.{eqb}
@@ -87,7 +87,7 @@ module _ (L : ℕ) where
       )
 
   -- behind one such record there is no second
-  pub only-one : (s : Sheet) (c : ℕ) → c ≤ 7 → (rs : List Record) → AllWellFormed L (withProfile s c) rs → Unprofiled rs
+  pub only-one : (s : Sheet) (c : ℕ) → c < 8 → (rs : List Record) → AllWellFormed L (withProfile s c) rs → Unprofiled rs
   unfolding AllWellFormed twice
   only-one s c h [] w r m e = List·Memᴰ·not-nil m
   only-one s c h (q ∷ rs) w r m e =

@@ -21,8 +21,8 @@ use Rattle.machine.proofs.laws.Alike.{Alike, alike, start-same}
 use Rattle.toplevel.proofs.Bare.{bare}
 use Rattle.toplevel.proofs.Start.{fillings-bare}
 use Rattle.toplevel.proofs.Run.{beyond, stepBy, step-bare, step-alike}
-use Rattle.profiles.specs.Profiles.{freeGuest}
-use Rattle.profiles.proofs.Guest.{guestBy, heldGuest, freeProgram, heldProgram, free-statements, held-statements}
+use Rattle.profiles.specs.Profiles.{freeGuest, heldGuest}
+use Rattle.profiles.proofs.Guest.{guestBy, freeProgram, heldProgram, free-statements, held-statements}
 
 -- ---- statements with the same scopes that do the same
 

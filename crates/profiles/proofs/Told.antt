@@ -19,8 +19,8 @@ use Rattle.analysis.specs.Rules.{ruleOf, rules}
 use Rattle.analysis.proofs.Alike.{Alike, rule-alike}
 use Rattle.toplevel.proofs.Bare.{bare}
 use Rattle.toplevel.proofs.Told.{returnsAmong, returns-bare, chained, rules-bare}
-use Rattle.profiles.specs.Profiles.{freeGuest}
-use Rattle.profiles.proofs.Guest.{guestBy, heldGuest, freeProgram, heldProgram, free-statements, held-statements, guest-returns}
+use Rattle.profiles.specs.Profiles.{freeGuest, heldGuest}
+use Rattle.profiles.proofs.Guest.{guestBy, freeProgram, heldProgram, free-statements, held-statements, guest-returns}
 
 -- ---- rules of fewer names
 

@@ -1,13 +1,13 @@
--- What it changes that guests are held to a class of names (document 02, Req 04: "New kind 9, body c (0 to 7), may stand once in a file."): a file with the
--- record beside the file without it. L is the number of labels. proofs/Profiles.antt proves it for every L from 5 up. Assumes nothing.
+-- What it changes that guests are held to a class of names: a file with a record of kind 9 beside the file without it (document 02, Req 04). L is the number
+-- of labels. proofs/Profiles.antt proves it for every L from 5 up. Assumes nothing.
 use mathlib.Core.Path.{_≡_}
 use mathlib.Core.Logic.{_↔_}
 use mathlib.Core.List.{List, [], _∷_, _++_, List·Memᴰ}
 use mathlib.Core.Bool.{true}
 use Prim.Native.Nat.{ℕ, _+_, _<_, _≤_}
 use lib.ListN.{length, take, drop}
-use Rattle.layout.specs.Key.{inside}
-use Rattle.rules.specs.Table.{Table, Within}
+use Rattle.layout.specs.Key.{inside, classCount}
+use Rattle.rules.specs.Table.{Table, Within, facts}
 use Rattle.format.specs.Sheet.{Sheet, start, withProfile}
 use Rattle.format.specs.Records.{Record}
 use Rattle.format.specs.Reading.{readFile, Readable, longest, written, AllWellFormed}
@@ -31,6 +31,10 @@ Free L xs = (at : ℕ) (r : Record) → List·Memᴰ (at, r) (readFile L xs .rec
 abbrev pub freeGuest : Sheet → Guest
 freeGuest s = record { label = 3; bag = bag; key = inside; prototyped = true; forbidden = s .forbidden }
 
+-- "With it, the guest's load and store use key 128 + c, and the prototype property of guest functions is written only if name 3 is in class c."
+abbrev pub heldGuest : Sheet → ℕ → Guest
+heldGuest s c = record { label = 3; bag = bag; key = inside + c; prototyped = inClass s c 3; forbidden = s .forbidden }
+
 -- every name is of class c, by the masks of the whole file
 abbrev pub HasEveryName : ℕ → List ℕ → ℕ → Type 0
 HasEveryName L xs c = (n : ℕ) → n < 32 → inClass (readFile L xs .sheet) c n ≡ true
@@ -50,8 +54,11 @@ pub record Held (L : ℕ) (ys xs : List ℕ) (c : ℕ) : Type 0 where
   pub readable-without : Readable L ys
   pub free : Free L ys
   pub sheet : readFile L xs .sheet ≡ withProfile (readFile L ys .sheet) c
-  -- to hold the guest adds no fact
+  -- the guest of xs is held to class c
+  pub guest : programIn L xs .guests ≡ heldGuest (readFile L xs .sheet) c ∷ []
+  -- to hold it adds no fact. (States of the machine are not compared: the functions that it makes may lack a property that those of ys have)
   pub fewer : Within (leastTable L (programIn L xs)) (leastTable L (programIn L ys))
+  pub count : facts L (leastTable L (programIn L xs)) ≤ facts L (leastTable L (programIn L ys))
   -- so that what is confined stays so, and a table that is accepted is accepted for the guest that is held
   pub confined : (rows : ℕ) → Confined (verdictOutcome L rows ys) → Confined (verdictOutcome L rows xs)
   pub accepted : (t : Table) → Accepts L ys t → Accepts L xs t
@@ -65,6 +72,6 @@ pub record Profiles (L : ℕ) : Type 0 where
   pub taken-out : (xs : List ℕ) → Readable L xs → (at c : ℕ) → List·Memᴰ (at, profile c) (readFile L xs .records)
       → Held L (take at xs ++ drop (at + 2) xs) xs c
   -- and one can be put into every readable file that has none, between any two records
-  pub put-in : (before : List Record) (behind : List ℕ) (c : ℕ) → AllWellFormed L (start L) before → c ≤ 7
+  pub put-in : (before : List Record) (behind : List ℕ) (c : ℕ) → AllWellFormed L (start L) before → c < classCount
       → length (written before ++ (9 ∷ c ∷ behind)) ≤ longest → Readable L (written before ++ behind) → Free L (written before ++ behind)
       → Held L (written before ++ behind) (written before ++ (9 ∷ c ∷ behind)) c

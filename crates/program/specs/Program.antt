@@ -5,7 +5,7 @@ use Prim.Native.Nat.{ℕ, _+_, _-_, _*_, _/_, _%_, _^_}
 use lib.ListN.{getD, take, drop, replicate}
 use lib.Dec.{eqb, ltb}
 use Rattle.rules.specs.Rule.{chosen}
-use Rattle.layout.specs.Key.{inside, outside}
+use Rattle.layout.specs.Key.{inside, outside, classCount}
 use Rattle.format.specs.Sheet.{Sheet, typeOf}
 use Rattle.format.specs.Records.{Record}
 use Rattle.format.specs.Reading.{Reading}
@@ -90,7 +90,7 @@ namesOf s key =
 -- "New kind 9, body c (0 to 7)" (request 04): the class of names that guests are held to. Without the record it is class 0, that of "key 128": "Class 0
 -- holds every name"
 abbrev pub guestClass : Sheet → ℕ
-guestClass s = cond (ltb (s .profile) 8) (s .profile) 0
+guestClass s = cond (ltb (s .profile) classCount) (s .profile) 0
 
 -- "3 whatever the guest makes", "variable 1 is the guest's bag"; "the guest's load and store use key 128 + c" (request 04)
 abbrev pub guestThree : Sheet → Guest

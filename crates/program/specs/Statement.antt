@@ -28,7 +28,7 @@ pub data Statement : Type 0 where
 abbrev pub bag : ℕ
 bag = 1
 
--- what a record says; records of kinds 1 to 4 and nameless variables only declare
+-- what a record says; records of kinds 1 to 4 and 9 and nameless variables only declare
 unfoldable pub statementsOf : Record → List Statement
 statementsOf r =
     let b = r .body in

@@ -138,7 +138,13 @@ fn onward(low: &[u64; 256], high: &[u64; 256], notes: &mut [u64; 256]) -> bool {
 }
 
 // The next record of these 64 bytes that is worth a look; END where there is none.
-fn look(wide: bool, t: &[u64], file: &[u8], host: &[u64; 17], notes: &mut [u64; 256]) -> usize
+fn look(
+    wide: bool,
+    t: &[u64],
+    file: &[u8],
+    host: &[u64; host::WORDS],
+    notes: &mut [u64; 256],
+) -> usize
     requires { ⌜ wordCount wide ≤ length (now t) ⌝ }
 {
     let from = 64 * (number(notes[WORD]) % 512);
@@ -162,7 +168,7 @@ fn scan(
     wide: bool,
     t: &[u64],
     file: &[u8],
-    host: &[u64; 17],
+    host: &[u64; host::WORDS],
     low: &[u64; 256],
     high: &[u64; 256],
     notes: &mut [u64; 256],
@@ -186,7 +192,7 @@ fn choose(
     wide: bool,
     t: &[u64],
     file: &[u8],
-    host: &[u64; 17],
+    host: &[u64; host::WORDS],
     low: &[u64; 256],
     high: &[u64; 256],
     index: &[u64; 256],
@@ -218,7 +224,7 @@ pub fn next(
     wide: bool,
     t: &[u64],
     file: &[u8],
-    host: &[u64; 17],
+    host: &[u64; host::WORDS],
     low: &[u64; 256],
     high: &[u64; 256],
     index: &[u64; 256],

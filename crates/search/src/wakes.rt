@@ -32,7 +32,7 @@ fn grew(file: &[u8], notes: &[u64; 256], at: usize, j: usize) -> bool {
 }
 
 // Whether something was stored under a name under which the record looks.
-fn names_grew(file: &[u8], host: &[u64; 17], notes: &[u64; 256], at: usize) -> bool {
+fn names_grew(file: &[u8], host: &[u64; host::WORDS], notes: &[u64; 256], at: usize) -> bool {
     words::meet(notes[NAMES_GREW], names_read(file, host, at)) != 0
 }
 
@@ -77,7 +77,7 @@ fn wakes_load(
     wide: bool,
     t: &[u64],
     file: &[u8],
-    host: &[u64; 17],
+    host: &[u64; host::WORDS],
     notes: &[u64; 256],
     at: usize,
 ) -> bool
@@ -123,7 +123,7 @@ pub fn wakes(
     wide: bool,
     t: &[u64],
     file: &[u8],
-    host: &[u64; 17],
+    host: &[u64; host::WORDS],
     notes: &[u64; 256],
     at: usize,
 ) -> bool
@@ -145,14 +145,14 @@ pub fn wakes(
 }
 
 // What wakes a new beside what wakes a call.
-fn wakes_new(file: &[u8], host: &[u64; 17], notes: &[u64; 256], at: usize) -> bool {
+fn wakes_new(file: &[u8], host: &[u64; host::WORDS], notes: &[u64; 256], at: usize) -> bool {
     grew(file, notes, at, 11)
         | among(file, notes, OBJECTS_GREW, at, 3)
         | names_grew(file, host, notes, at)
 }
 
 // What wakes a prim, but for what is thrown.
-fn wakes_prim(file: &[u8], host: &[u64; 17], notes: &[u64; 256], at: usize) -> bool {
+fn wakes_prim(file: &[u8], host: &[u64; host::WORDS], notes: &[u64; 256], at: usize) -> bool {
     grew(file, notes, at, 2)
         | among(file, notes, OBJECTS_GREW, at, 2)
         | names_grew(file, host, notes, at)

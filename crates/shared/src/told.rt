@@ -51,7 +51,7 @@ fn told_throws(t: &[u64], wide: bool, keeps: &mut [u64; 256], s: Set, have: Set)
 }
 
 // Every name of the word is of class 0, which is so in every file that can be read.
-pub fn of_class_zero(host: &[u64; 17], names: u64) -> bool
+pub fn of_class_zero(host: &[u64; host::WORDS], names: u64) -> bool
     ensures { λ r. ⌜ (r ≡ true → difference names (namesIn (now (host .entry)) inside) ≡ 0) ⌝ }
 {
     words::without(names, host::names(host, layout::INSIDE)) == 0
@@ -62,7 +62,7 @@ pub fn of_class_zero(host: &[u64; 17], names: u64) -> bool
 fn told_unkept(
     t: &[u64],
     wide: bool,
-    host: &[u64; 17],
+    host: &[u64; host::WORDS],
     keeps: &[u64; 256],
     names: u64,
     s: Set,
@@ -82,7 +82,7 @@ fn told_unkept(
 pub fn told_under(
     t: &[u64],
     wide: bool,
-    host: &[u64; 17],
+    host: &[u64; host::WORDS],
     keeps: &mut [u64; 256],
     key: u8,
     s: Set,
@@ -129,7 +129,7 @@ pub fn look_up(
     t: &mut [u64],
     o: usize,
     wide: bool,
-    host: &[u64; 17],
+    host: &[u64; host::WORDS],
     keeps: &mut [u64; 256],
     y: usize,
     key: u8,

@@ -27,6 +27,9 @@ const SEVEN: usize = 7;
 // Seven for each label.
 const FORMALS: usize = 1792;
 
+// No class has this number.
+const NO_PROFILE: u8 = 255;
+
 pub struct Sheet {
     // of each label: 0 not declared, 1 plain, 2 function, 3 array
     pub types: [u8; LABELS],
@@ -44,7 +47,7 @@ pub struct Sheet {
     pub names: [u8; VARIABLES],
     // the forbidden labels
     pub forbidden: Set,
-    // the class of names that guests are held to, 255 for none
+    // the class of names that guests are held to, NO_PROFILE where no record says so
     pub profile: u8,
 }
 
@@ -79,11 +82,11 @@ pub fn fresh(wide: bool) -> Sheet
         owners: [1u8; VARIABLES],
         names: [255u8; VARIABLES],
         forbidden: sets::none(wide),
-        profile: 255,
+        profile: NO_PROFILE,
     }
 }
 
-// The first kind of record, behind those that declare names, labels and variables, that says something to the rules.
+// The first kind of record that declares nothing.
 const GRANT: u8 = 6;
 
 // The kind of the record that holds guests to a class of names.
@@ -221,7 +224,7 @@ impl Sheet {
         ensures { λ r. ⌜ r .refusal ≡ wholeRefusal (sheetOf wide self) 9 (now (body .entry)) ⌝ }
         ensures { λ r. ⌜ sheetOf wide (r .sheet) ≡ handedBack (sheetOf wide self) 9 (now (body .entry)) ⌝ }
     {
-        if self.profile != 255 {
+        if self.profile != NO_PROFILE {
             return Taken {
                 sheet: self,
                 refusal: 6,

@@ -35,7 +35,7 @@ pub fn iterate<'a>(
     requires { ⌜ Lent wide o (length (now t)) × Readable (labels wide) (now file) × Arrays wide (now file) (now types) (now flags) (now masks) (now formals) profile × (o ≡ 0 → tableAt wide 0 (now t) ≡ emptyTable (labels wide)) ⌝ }
     ensures { λ grew. ⌜ Iterated wide o (now (file .entry)) (now (t .entry)) (now (t .exit)) grew ⌝ }
 {
-    let mut host = [0u64; 17];
+    let mut host = [0u64; host::WORDS];
     laying::lay(wide, types, flags, masks, profile, &mut host);
     let mut first = [0u64; 256];
     let mut second = [0u64; 256];

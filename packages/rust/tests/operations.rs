@@ -88,7 +88,7 @@ fn a_short_table_is_refused<E: Edition>() {
 }
 
 fn a_refusal_leaves_every_word<E: Edition>() {
-    for (file, answer) in [(vec![3, 3, 10], refused(1, 2)), (vec![0; FILE_BYTES + 1], refused(9, 0))] {
+    for (file, answer) in [(vec![3, 3, 0], refused(1, 2)), (vec![0; FILE_BYTES + 1], refused(9, 0))] {
         let mut table = vec![7; E::TABLE_WORDS + 1];
         assert_eq!(verdict::<E>(&file, &mut table), answer);
         assert!(table.iter().all(|&word| word == 7));

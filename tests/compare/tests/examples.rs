@@ -150,7 +150,8 @@ fn walks_stay_within_the_table_of_each_example() {
     }
 }
 
-/// The leaks of `adsafe-leaks`, `adsafe-profile-leaks` and `gallery-leaks` take more steps in a row than random walks find, and the alarm of `wrapper-shared` is false.
+/// The leaks of `adsafe-leaks`, `adsafe-profile-leaks` and `gallery-leaks` take more steps in a row than random walks find, and the alarm of `wrapper-shared`
+/// is false.
 #[test]
 fn walks_come_to_hold_what_the_short_examples_leak() {
     let short = ["journal-leaks", "logger-leaks", "hidden-leaks", "module-leaks", "site-shared"];

@@ -84,13 +84,18 @@ fn a_held_guest_has_no_fact_more() {
 #[test]
 fn a_profile_may_stand_anywhere() {
     let mut r = Prng::new(3);
+    let (mut seen, mut held) = (0, 0);
     for (e, (name, file)) in files().step_by(3) {
+        seen += 1;
         let Some(record) = records(&file).find(|record| profile(record).is_some()) else { continue };
+        held += 1;
         let rest = without_profile(&file);
         for _ in 0..3 {
             assert_eq!(program(e, &anywhere(&mut r, &rest, record)), program(e, &file), "{name}");
         }
     }
+    println!("{held} of {seen} files have a profile");
+    assert!(10 * held > 9 * seen);
 }
 
 /// The program with no other statement of the guest than its make function.

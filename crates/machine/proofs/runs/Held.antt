@@ -2,6 +2,7 @@
 use mathlib.Core.Path.{refl}
 use mathlib.Core.List.{List, [], _∷_, _++_}
 use Prim.Native.Nat.{ℕ}
+use lib.ListN.{replicate}
 use Rattle.program.proofs.File.{name, plain, function, variable, profile, grant, property, held, load, call, return, throw, catch, forbidden, journal}
 use Rattle.machine.proofs.runs.Run.{Turn, guestMakeFunction, guestStore, guestCall, guestNew, guestReturn, guestThrow, guestCatch, host, atPair, does, hands, grants, lends, makes, loads, loadsFromPrimitive, outcome, EndsWith}
 
@@ -152,6 +153,20 @@ pub held-new : EndsWith
     (6 ∷ 3 ∷ 3 ∷ 5 ∷ [])
 unfolding outcome
 held-new = refl
+
+-- its `new` on a function of its own, which has nothing under name 3: the object's prototype is that of label 1, where the journal is under name 10
+pub held-new-of-its-own : EndsWith (forbidden ++ (property 1 10 5 ∷ profile 1 ∷ name 10 3 ∷ []))
+    (makes 2 0 ∷ does guestNew 1 ∷ loads 1 10 0 ∷ [])
+    (3 ∷ 3 ∷ 3 ∷ 3 ∷ replicate 6 3 ++ (5 ∷ []))  -- the function, t, y, this and six arguments
+unfolding outcome
+held-new-of-its-own = refl
+
+-- where the function has Function.prototype as its own prototype, name 3 is found there
+pub held-new-along : EndsWith (forbidden ++ (plain 7 ∷ property 2 3 7 ∷ property 7 10 5 ∷ profile 1 ∷ name 10 3 ∷ []))
+    (makes 1 0 ∷ does guestNew 1 ∷ loads 1 10 0 ∷ [])
+    (3 ∷ 3 ∷ 3 ∷ 3 ∷ replicate 6 3 ++ (5 ∷ []))  -- the function, t, y, this and six arguments
+unfolding outcome
+held-new-along = refl
 
 -- it returns and throws: the host, whose variable 4 gets its function by the call or by the catch, calls that with the journal
 abbrev takesFunction : List (List ℕ)
