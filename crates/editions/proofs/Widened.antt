@@ -2,7 +2,7 @@
 -- with every record that is well formed for the fewer labels. Assumes nothing.
 use mathlib.Core.Path.{_≡_, refl, sym, ap, _∙_, subst}
 use mathlib.Core.List.{List, _++_, append-assoc}
-use mathlib.Core.Bool.{Bool, true, false, cond}
+use mathlib.Core.Bool.{Bool, true, false}
 use Prim.Native.Nat.{ℕ, _+_, _*_, _-_, _<_, _≤_}
 use native.Mathlib.Omega.{arith}
 use lib.ListN.{length, getD, take, drop, replicate, replicate-append-replicate}
@@ -10,12 +10,12 @@ use lib.Seq.{set-append-left, take-append-le, drop-append-le, paste}
 use lib.Dec.{eqb, leb}
 use borrow.Author.Tests.{eqb-true, ltb-true}
 use Rattle.layout.specs.Layout.{name, fieldsOf}
-use Rattle.format.specs.Sheet.{Sheet, start, withMask, withLabel, withForbidden, withFunction, withVariable, withProfile}
+use Rattle.format.specs.Sheet.{Sheet, start, withLabel, withFunction}
 use Rattle.format.specs.Fields.{good}
 use Rattle.format.specs.Records.{Record, field, WellFormed, after}
 use Rattle.format.proofs.Tests.{and-second}
 use Rattle.format.proofs.Fields.{fits-good}
-use Rattle.format.proofs.Effect.{function-of}
+use Rattle.format.proofs.Effect.{function-of, afterBy}
 use Rattle.format.proofs.Later.{Sized, function-below}
 use Rattle.format.proofs.Ready.{startTypes, startFlags}
 use Rattle.format.proofs.Functions.{startDefined}
@@ -65,17 +65,6 @@ paste-front : (xs ys : List ℕ) (at : ℕ) (vs : List ℕ) (k : ℕ) → at + k
 paste-front xs ys at vs k h =
     rw (take-append-le at xs ys (omega arith), drop-append-le (at + k) xs ys h)
     (sym (append-assoc (take at xs ++ take k vs) (drop (at + k) xs) ys))
-
--- what `after` makes of the sheet, by its six tests of the kind
-abbrev afterBy : Bool → Bool → Bool → Bool → Bool → Bool → Sheet → List ℕ → Sheet
-afterBy one two three four five nine s b =
-    cond one (withMask s (field b 0) (field b 1))
-    (cond two (withLabel s (field b 0) (field b 1) (field b 2))
-    (cond three (withForbidden s (field b 0))
-    (cond four (withFunction s (field b 0) (drop 1 b))
-    (cond five (withVariable s (field b 0) (field b 1) (field b 2))
-    (cond nine (withProfile s (field b 0))
-    s)))))
 
 module _ (L n : ℕ) (s : Sheet) (z : Sized L s) where
   label-widened : (l t f : ℕ) → l < L → withLabel (widened n s) l t f ≡ widened n (withLabel s l t f)

@@ -3,17 +3,17 @@
 use mathlib.Core.Path.{_≡_, sym, subst}
 use mathlib.Core.Logic.{_⊎_, inl, inr}
 use mathlib.Core.List.{List, [], _∷_}
-use mathlib.Core.Bool.{true, false, not, _&&_, _||_}
+use mathlib.Core.Bool.{Bool, true, false, cond, not, _&&_, _||_}
 use Prim.Native.Nat.{ℕ, _%_, _<_, _≤_}
 use native.Mathlib.Decide.{ℕ-discrete}
-use lib.ListN.{getD, replicate}
+use lib.ListN.{getD, drop, replicate}
 use lib.Dec.{eqb, leb, ltb}
 use borrow.Author.Tests.{ne-eqb, eqb-true, eqb-false, leb-true, ltb-true, not-true, not-false}
 use Rattle.layout.specs.Key.{classCount}
 use Rattle.layout.specs.Layout.{variable, fieldsOf}
 use Rattle.format.specs.Sheet.{Sheet, noProfile, typeOf, ownerOf, known, withMask, withLabel, withForbidden, withFunction, withVariable, withProfile}
 use Rattle.format.specs.Fields.{good, Fits}
-use Rattle.format.specs.Records.{Record, WellFormed, misnamed, twice, after}
+use Rattle.format.specs.Records.{Record, field, WellFormed, misnamed, twice, after}
 use Rattle.format.proofs.Tests.{and-first, and-second, and-false, or-true}
 
 -- a declared function label from 5 up
@@ -68,6 +68,17 @@ name-of k n e m = go (ℕ-discrete n 255) (or-true (eqb n 255) _ e)
         inr (ltb-true _ _ q, equal _ _ (and-false (not (eqb k 0)) _ m unnamed))
 
 -- ---- the cases
+
+-- what `after` makes of the sheet, by its six tests of the kind
+abbrev pub afterBy : Bool → Bool → Bool → Bool → Bool → Bool → Sheet → List ℕ → Sheet
+afterBy one two three four five nine s b =
+    cond one (withMask s (field b 0) (field b 1))
+    (cond two (withLabel s (field b 0) (field b 1) (field b 2))
+    (cond three (withForbidden s (field b 0))
+    (cond four (withFunction s (field b 0) (drop 1 b))
+    (cond five (withVariable s (field b 0) (field b 1) (field b 2))
+    (cond nine (withProfile s (field b 0))
+    s)))))
 
 -- what is to be shown for kind k
 abbrev Shown : ℕ → Sheet → List ℕ → ℕ → Type 0

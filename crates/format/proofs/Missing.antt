@@ -3,22 +3,22 @@
 use mathlib.Core.Path.{_≡_, refl, sym, ap, _∙_}
 use mathlib.Core.Logic.{_↔_, _⊎_, inl, inr}
 use mathlib.Core.List.{List, [], _∷_, List·Memᴰ, List·Memᴰ·head, List·Memᴰ·tail, List·Memᴰ·not-nil}
-use mathlib.Core.Bool.{Bool, true, false, cond, _&&_, true≢false}
+use mathlib.Core.Bool.{Bool, true, false, _&&_, true≢false}
 use Prim.Native.Nat.{ℕ, zero, suc, _+_, _<_, _≤_}
 use native.Mathlib.Decide.{ℕ-discrete, decLe}
 use native.Mathlib.Omega.{arith}
-use lib.ListN.{length, getD, set, drop}
+use lib.ListN.{length, getD, set}
 use lib.Seq.{getD-set-same, getD-set-other}
 use lib.Dec.{eqb}
 use borrow.Author.Tests.{eqb-true}
 use Rattle.layout.specs.Layout.{fieldsOf, functionLabel}
-use Rattle.format.specs.Sheet.{Sheet, start, withMask, withLabel, withForbidden, withFunction, withVariable, withProfile}
+use Rattle.format.specs.Sheet.{Sheet, start}
 use Rattle.format.specs.Fields.{good}
 use Rattle.format.specs.Records.{Record, field, WellFormed, after}
 use Rattle.format.specs.Reading.{Reading, sheetAfter, AllWellFormed, positioned, lacking, readFile, Readable, Missing, Concatenation}
 use Rattle.format.proofs.Tests.{and-first, and-second, or-true}
 use Rattle.format.proofs.Fields.{fits-good}
-use Rattle.format.proofs.Effect.{function-of}
+use Rattle.format.proofs.Effect.{function-of, afterBy}
 use Rattle.format.proofs.Later.{Sized, function-below, record-extends, inside}
 use Rattle.format.proofs.Ready.{Made, startTypes}
 use Rattle.format.proofs.Made.{start-sized, made-start, made-all}
@@ -40,10 +40,7 @@ after-known : (s : Sheet) (k : ℕ) (b : List ℕ) (j : ℕ) → (getD (s .defin
 unfolding after
 after-known s k b j d = go (eqb k 1) (eqb k 2) (eqb k 3) (eqb k 4) (eqb k 5) (eqb k 9)
   where
-    go : (one two three four five nine : Bool) →
-        getD (cond one (withMask s (field b 0) (field b 1)) (cond two (withLabel s (field b 0) (field b 1) (field b 2))
-        (cond three (withForbidden s (field b 0)) (cond four (withFunction s (field b 0) (drop 1 b))
-        (cond five (withVariable s (field b 0) (field b 1) (field b 2)) (cond nine (withProfile s (field b 0)) s))))) .defined) j 0 ≡ 0 → ⊥
+    go : (one two three four five nine : Bool) → getD (afterBy one two three four five nine s b .defined) j 0 ≡ 0 → ⊥
     go true two three four five nine = d
     go false true three four five nine = d
     go false false true four five nine = d

@@ -3,15 +3,15 @@
 use mathlib.Core.Path.{_≡_, refl, sym, ap, subst, _∙_}
 use mathlib.Core.Logic.{_↔_, _⊎_, inl, inr}
 use mathlib.Core.List.{List, [], _∷_, _++_, List·Memᴰ, List·Memᴰ·head, List·Memᴰ·tail, List·Memᴰ·cases-cons, List·Memᴰ·not-nil}
-use mathlib.Core.Bool.{Bool, true, false, cond, true≢false}
+use mathlib.Core.Bool.{Bool, true, false, true≢false}
 use Prim.Native.Nat.{ℕ, _<_}
 use native.Mathlib.Omega.{arith}
-use lib.ListN.{drop}
 use lib.Dec.{eqb}
 use borrow.Author.Tests.{ne-eqb}
 use Rattle.layout.specs.Layout.{fieldsOf}
-use Rattle.format.specs.Sheet.{Sheet, withMask, withLabel, withForbidden, withFunction, withVariable, withProfile}
-use Rattle.format.specs.Records.{Record, field, WellFormed, twice, after}
+use Rattle.format.specs.Sheet.{Sheet, withProfile}
+use Rattle.format.specs.Records.{Record, WellFormed, twice, after}
+use Rattle.format.proofs.Effect.{afterBy}
 use Rattle.format.specs.Reading.{sheetAfter, AllWellFormed}
 use Rattle.format.proofs.Later.{Extends, fits-stays}
 use Rattle.profiles.specs.Profiles.{profile}
@@ -44,16 +44,7 @@ after-held : (s : Sheet) (c k : ℕ) (b : List ℕ) → (k ≡ 9 → ⊥) → af
 unfolding after
 after-held s c k b n = rw (ne-eqb k 9 n) (go (eqb k 1) (eqb k 2) (eqb k 3) (eqb k 4) (eqb k 5))
   where
-    by : (one two three four five : Bool) → Sheet → Sheet
-    by one two three four five s =
-        cond one (withMask s (field b 0) (field b 1))
-        (cond two (withLabel s (field b 0) (field b 1) (field b 2))
-        (cond three (withForbidden s (field b 0))
-        (cond four (withFunction s (field b 0) (drop 1 b))
-        (cond five (withVariable s (field b 0) (field b 1) (field b 2))
-        s))))
-
-    go : (one two three four five : Bool) → by one two three four five (withProfile s c) ≡ withProfile (by one two three four five s) c
+    go : (one two three four five : Bool) → afterBy one two three four five false (withProfile s c) b ≡ withProfile (afterBy one two three four five false s b) c
     go true _ _ _ _ = refl
     go false true _ _ _ = refl
     go false false true _ _ = refl
