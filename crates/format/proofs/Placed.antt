@@ -1,6 +1,6 @@
 -- Where records stand: what is read does not depend on it but for the positions; the records before a place and behind it. Assumes nothing.
 use mathlib.Core.Path.{_≡_, refl, sym, ap, _∙_}
-use mathlib.Core.Logic.{_⊎_, inl, inr}
+use mathlib.Core.Logic.{_↔_, _⊎_, inl, inr}
 use mathlib.Core.List.{List, [], _∷_, _++_, map, List·Memᴰ, List·Memᴰ·cases-cons, List·Memᴰ·not-nil, append-assoc}
 use mathlib.Core.Bool.{Bool, true, false, cond, _&&_}
 use Prim.Native.Nat.{ℕ, zero, suc, _+_}
@@ -91,11 +91,23 @@ place-of (x ∷ rs) from at r m = go (List·Memᴰ·cases-cons m) (place-of rs (
           place = omega (arith, p .place, length-append (x .body) (written (p .before)));
         }
 
--- records before a record are well formed, and it is under the sheet that they make
+-- records one behind the other
+pub well-formed-append : (L : ℕ) (s : Sheet) (rs qs : List Record) → AllWellFormed L s (rs ++ qs) ↔ (AllWellFormed L s rs × AllWellFormed L (sheetAfter s rs) qs)
+unfolding AllWellFormed sheetAfter
+well-formed-append L s [] qs = ((λ w. (tt, w)), λ w. w .1)
+well-formed-append L s (r ∷ rs) qs =
+    let rest = well-formed-append L (after s (r .kind) (r .body)) rs qs in (
+      (λ w. let h = rest .0 (w .1) in ((w .0, h .0), h .1)),
+      (λ w. (w .0 .0, rest .1 (w .0 .1, w .1))),
+    )
+
+pub sheet-append : (s : Sheet) (rs qs : List Record) → sheetAfter s (rs ++ qs) ≡ sheetAfter (sheetAfter s rs) qs
+unfolding sheetAfter
+sheet-append s [] qs = refl
+sheet-append s (r ∷ rs) qs = sheet-append (after s (r .kind) (r .body)) rs qs
+
+-- a record among others that are well formed is so under the sheet that those before it make
 pub front-well-formed : (L : ℕ) (s : Sheet) (rs qs : List Record) (r : Record) → AllWellFormed L s (rs ++ (r ∷ qs))
     → AllWellFormed L s rs × WellFormed L (sheetAfter s rs) r
-unfolding AllWellFormed sheetAfter
-front-well-formed L s [] qs r w = (tt, w .0)
-front-well-formed L s (x ∷ rs) qs r w =
-    let h = front-well-formed L (after s (x .kind) (x .body)) rs qs r (w .1) in
-    ((w .0, h .0), h .1)
+unfolding AllWellFormed
+front-well-formed L s rs qs r w = let h = well-formed-append L s rs (r ∷ qs) .0 w in (h .0, h .1 .0)

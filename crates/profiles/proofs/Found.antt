@@ -14,10 +14,10 @@ use Rattle.format.proofs.Effect.{equal}
 use Rattle.format.proofs.Reading.{joined, written-first}
 use Rattle.format.proofs.Written.{Whole, read-whole}
 use Rattle.format.proofs.File.{Complete, readable-complete, Read, readable-read}
-use Rattle.format.proofs.Placed.{written-append, Place}
+use Rattle.format.proofs.Placed.{written-append, Place, well-formed-append, sheet-append}
 use Rattle.toplevel.proofs.Found.{left-out, found}
 use Rattle.profiles.specs.Profiles.{profile, Free}
-use Rattle.profiles.proofs.Records.{Unprofiled, all-held, only-one, well-formed-append, sheet-append, sheet-with, class-stays}
+use Rattle.profiles.proofs.Records.{Unprofiled, all-held, only-one, sheet-with, class-stays}
 use Rattle.profiles.proofs.Read.{free-unheld, Around}
 
 -- the bytes of both files, by their records

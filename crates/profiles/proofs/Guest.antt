@@ -1,14 +1,13 @@
 -- The two guests: without the record it is document 01's, with it it has the key and the prototype property of its class. Both return the same.
 -- Assumes nothing.
-use mathlib.Core.Path.{_≡_, refl, sym, ap, ap₂, _∙_}
+use mathlib.Core.Path.{_≡_, refl, sym, ap, _∙_}
 use mathlib.Core.List.{List, [], _∷_, _++_, List·Memᴰ}
-use mathlib.Core.Bool.{Bool, true, false}
-use Prim.Native.Nat.{ℕ, zero, suc, _+_, _<_}
+use mathlib.Core.Bool.{Bool, true}
+use Prim.Native.Nat.{ℕ, _+_, _<_}
 use native.Mathlib.Omega.{arith}
 use borrow.Author.Tests.{lt-ltb}
 use Rattle.layout.specs.Key.{inside}
-use Rattle.rules.specs.Rule.{chosen}
-use Rattle.rules.proofs.Labels.{chosen-passes}
+use Rattle.rules.proofs.Labels.{chosen-passes, chosen-alike}
 use Rattle.format.specs.Sheet.{Sheet, withProfile}
 use Rattle.format.specs.Reading.{Reading}
 use Rattle.program.specs.Statement as say
@@ -94,13 +93,6 @@ guest-returns f g ss = rw (made-either (λ (a : say.Statement). returnedBy f a �
 
 pub class-within : (s : Sheet) (c : ℕ) → c < 8 → NamesInside s → (n : ℕ) → List·Memᴰ n (namesOf s (inside + c)) → List·Memᴰ n (namesOf s inside)
 class-within s c h names n m = names n (chosen-passes (inClass s c) 32 n (rw (class-names s c (omega arith)) at m) .0)
-
--- tests that say the same below n choose the same
-chosen-alike : (f g : ℕ → Bool) (n : ℕ) → ((x : ℕ) → x < n → f x ≡ g x) → chosen f n ≡ chosen g n
-unfolding chosen
-chosen-alike f g zero e = refl
-chosen-alike f g (suc n) e =
-    ap₂ (λ (b : Bool) (xs : List ℕ). elim b [ true ↦ xs ++ (n ∷ []) | false ↦ xs ]) (e n (omega arith)) (chosen-alike f g n (λ x h. e x (omega arith)))
 
 -- where its class has every name they are all names
 pub every-named : (s : Sheet) (c : ℕ) → c < 8 → NamesInside s → ((n : ℕ) → n < 32 → inClass s c n ≡ true)

@@ -15,14 +15,14 @@ use Rattle.format.specs.Records.{Record, WellFormed, misnamed, twice, after}
 use Rattle.format.specs.Reading.{Reading, readFile, Readable, lacking, longest, written, sheetAfter, AllWellFormed, positioned}
 use Rattle.format.proofs.Written.{just}
 use Rattle.format.proofs.File.{Complete, complete-read}
-use Rattle.format.proofs.Placed.{written-append}
+use Rattle.format.proofs.Placed.{written-append, well-formed-append, sheet-append}
 use Rattle.format.proofs.Readable.{readable-ready}
 use Rattle.program.specs.Statement as say
 use Rattle.program.specs.Statement.{statementsOf}
 use Rattle.program.specs.Program.{hostStatements}
 use Rattle.toplevel.proofs.Bare.{bare, said, bare-host}
 use Rattle.profiles.specs.Profiles.{profile, Free}
-use Rattle.profiles.proofs.Records.{Unprofiled, all-held, well-formed-append, sheet-append, sheet-with, class-stays}
+use Rattle.profiles.proofs.Records.{Unprofiled, all-held, sheet-with, class-stays}
 
 -- ---- files without the record: no class is on the sheet
 

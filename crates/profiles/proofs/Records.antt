@@ -1,7 +1,7 @@
 -- Records behind a record of kind 9: but for a second such record they are well formed whatever class guests are held to, and they declare the same.
 -- Assumes nothing.
 use mathlib.Core.Path.{_≡_, refl, sym, ap, subst, _∙_}
-use mathlib.Core.Logic.{_↔_, _⊎_, inl, inr}
+use mathlib.Core.Logic.{_⊎_, inl, inr}
 use mathlib.Core.List.{List, [], _∷_, _++_, List·Memᴰ, List·Memᴰ·head, List·Memᴰ·tail, List·Memᴰ·cases-cons, List·Memᴰ·not-nil}
 use mathlib.Core.Bool.{Bool, true, false, true≢false}
 use Prim.Native.Nat.{ℕ, _<_}
@@ -14,6 +14,7 @@ use Rattle.format.specs.Records.{Record, WellFormed, twice, after}
 use Rattle.format.proofs.Effect.{afterBy}
 use Rattle.format.specs.Reading.{sheetAfter, AllWellFormed}
 use Rattle.format.proofs.Later.{Extends, fits-stays}
+use Rattle.format.proofs.Placed.{sheet-append}
 use Rattle.profiles.specs.Profiles.{profile}
 
 -- none of the records is of kind 9
@@ -99,22 +100,6 @@ sheet-held s c [] u = refl
 sheet-held s c (r ∷ rs) u =
     ap (λ (t : Sheet). sheetAfter t rs) (after-held s c (r .kind) (r .body) (u r (List·Memᴰ·head refl)))
     ∙ sheet-held (after s (r .kind) (r .body)) c rs (λ q m. u q (List·Memᴰ·tail m))
-
--- ---- records one behind the other
-
-pub well-formed-append : (L : ℕ) (s : Sheet) (rs qs : List Record) → AllWellFormed L s (rs ++ qs) ↔ (AllWellFormed L s rs × AllWellFormed L (sheetAfter s rs) qs)
-unfolding AllWellFormed sheetAfter
-well-formed-append L s [] qs = ((λ w. (tt, w)), λ w. w .1)
-well-formed-append L s (r ∷ rs) qs =
-    let rest = well-formed-append L (after s (r .kind) (r .body)) rs qs in (
-      (λ w. let h = rest .0 (w .1) in ((w .0, h .0), h .1)),
-      (λ w. (w .0 .0, rest .1 (w .0 .1, w .1))),
-    )
-
-pub sheet-append : (s : Sheet) (rs qs : List Record) → sheetAfter s (rs ++ qs) ≡ sheetAfter (sheetAfter s rs) qs
-unfolding sheetAfter
-sheet-append s [] qs = refl
-sheet-append s (r ∷ rs) qs = sheet-append (after s (r .kind) (r .body)) rs qs
 
 -- ---- the one record among the others
 

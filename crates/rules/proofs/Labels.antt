@@ -145,3 +145,10 @@ passes-chosen f (suc n) x h e = go (f n) refl (ℕ-discrete x n) (λ i. passes-c
     go true d (no q) rest = rw (d, chosen) (Memᴰ·append-left (n ∷ []) (rest (omega arith)))
     go false d (yes q) rest = let r = sym d ∙ sym (ap f q) ∙ e in let z : _≡_ {A = ℕ} 0 1 = cc in absurd (omega arith)
     go false d (no q) rest = rw (d, chosen) (rest (omega arith))
+
+-- tests that say the same below n choose the same
+pub chosen-alike : (f g : ℕ → Bool) (n : ℕ) → ((x : ℕ) → x < n → f x ≡ g x) → chosen f n ≡ chosen g n
+unfolding chosen
+chosen-alike f g zero e = refl
+chosen-alike f g (suc n) e =
+    ap₂ (λ (b : Bool) (xs : List ℕ). elim b [ true ↦ xs ++ (n ∷ []) | false ↦ xs ]) (e n (omega arith)) (chosen-alike f g n (λ x h. e x (omega arith)))

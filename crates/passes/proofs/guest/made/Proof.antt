@@ -1,5 +1,4 @@
 -- How the guest makes a function: one of two statements. Assumes nothing.
-use mathlib.Core.Path.{refl}
 use Rattle.passes.proofs.Guests.{three-labels}
 use Rattle.passes.proofs.guest.made.Statement.{statement}
 use Rattle.passes.proofs.guest.made.Tie as tie
