@@ -3,12 +3,14 @@
 //! does alone.
 
 mod common;
+#[path = "common/readers.rs"]
+mod readers;
 
 use common::{short_files, Made};
+use readers::all_are_noticed;
 use second::check::one_use;
 use second::generate::profiles::profile;
 use second::generate::top_returns::records;
-use second::generate::{damaged_in, edge_mix_in, edges_in, Named};
 use second::keys::{Key, CLASSES, CLASS_ZERO, EVERY_NAME, KEY_OF_CLASS, KEY_OUTSIDE_CLASS, NAMES, NO_NAME, PROTOTYPE};
 use second::machine::{walk, witnessed};
 use second::program::{Program, Record, BAG, GUEST};
@@ -247,15 +249,5 @@ fn taken(file: &[u8], take: Taken) -> Vec<u8> {
 
 #[test]
 fn every_wrong_reader_is_noticed() {
-    for edition in Edition::BOTH {
-        let seeded = |make: fn(Edition, u64) -> Named| (0..6000).map(|seed| make(edition, seed)).collect();
-        let sources: [Vec<Named>; 3] = [edges_in(edition), seeded(edge_mix_in), seeded(damaged_in)];
-        for (title, take) in WRONG_READERS {
-            let wrong = |file: &[u8]| read_in(edition, file).err() != read_in(edition, &taken(file, take)).err();
-            let found =
-                sources.each_ref().map(|files| files.iter().find(|(_, file)| wrong(file)).map(|(name, _)| name));
-            println!("{edition:?} {title}: {found:?}");
-            assert!(found.iter().all(|name| name.is_some()), "{edition:?} {title}");
-        }
-    }
+    all_are_noticed(&WRONG_READERS, taken);
 }
