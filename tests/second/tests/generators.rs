@@ -199,19 +199,20 @@ fn returns_at_the_top(file: &[u8]) -> bool {
 /// Returns at the top level stand in files of every generator but those of many rounds.
 #[test]
 fn returns_at_the_top_level_are_everywhere() {
-    let makers: [(Make, u64); 7] = [
-        (random_in, 100),
-        (structured_in, 100),
-        (spread_in, 100),
-        (dense_in, 10),
-        (damaged_in, 100),
-        (edge_mix_in, 400),
-        (top_returns_in, 100),
+    // Each with a number of seeds, and of how many files one at least returns: files at the edges draw a kind at random.
+    let makers: [(Make, u64, u64); 7] = [
+        (random_in, 100, 40),
+        (structured_in, 100, 40),
+        (spread_in, 100, 40),
+        (dense_in, 10, 40),
+        (damaged_in, 100, 40),
+        (edge_mix_in, 400, 50),
+        (top_returns_in, 100, 40),
     ];
-    for (edition, (make, seeds)) in Edition::BOTH.into_iter().flat_map(|e| makers.map(|make| (e, make))) {
+    for (edition, (make, seeds, of)) in Edition::BOTH.into_iter().flat_map(|e| makers.map(|make| (e, make))) {
         let with = (0..seeds).filter(|&seed| returns_at_the_top(&make(edition, seed).1)).count();
         println!("{edition:?} {}: {with} of {seeds} files return at the top level", make(edition, 0).0);
-        assert!(50 * with as u64 >= seeds, "{edition:?} {}", make(edition, 0).0);
+        assert!(of * with as u64 >= seeds, "{edition:?} {}", make(edition, 0).0);
     }
 }
 
