@@ -1,11 +1,17 @@
 /* Pezvoran for C: the verdict on a statement file and the check of a finished table, for 64 labels and for 256.
    Link with libpezvoran.a for the small edition and libpezvoran_large.a for the large one: `rt staticlib pezvoran` and `rt staticlib pezvoran_large` write
-   them to target/staticlib. C99 or later, or C++. */
+   them to target/staticlib, and where ./install put them pkg-config knows them as pezvoran and pezvoran_large. C99 or later, or C++. */
 #ifndef PEZVORAN_H
 #define PEZVORAN_H
 
 #include <stddef.h>
 #include <stdint.h>
+
+/* The version, which packages and command have too. */
+#define PEZVORAN_VERSION "0.1.0"
+#define PEZVORAN_VERSION_MAJOR 0
+#define PEZVORAN_VERSION_MINOR 1
+#define PEZVORAN_VERSION_PATCH 0
 
 #ifdef __cplusplus
 extern "C" {
@@ -54,16 +60,16 @@ enum {
 
 /* The stack, in bytes. A call takes no more than this of it, on any file and table (computed from the archives and measured, in tests/memory); the check has two
    tables of its own there. What verdicts that run side by side take of memory is a table and this for each of them: eight take
-   8 * (8 * PEZVORAN_TABLE_WORDS + PEZVORAN_VERDICT_STACK_BYTES), 409,600 bytes, and 2,564,096 in the large edition. A thread takes some of its stack for itself, and
+   8 * (8 * PEZVORAN_TABLE_WORDS + PEZVORAN_VERDICT_STACK_BYTES), 557,056 bytes, and 2,752,512 in the large edition. A thread takes some of its stack for itself, and
    more where a program has much thread-local data. One with too little dies. */
 enum {
-    PEZVORAN_VERDICT_STACK_BYTES = 31744,
-    PEZVORAN_CHECK_STACK_BYTES = 70656,
-    PEZVORAN_LARGE_VERDICT_STACK_BYTES = 33792,
-    PEZVORAN_LARGE_CHECK_STACK_BYTES = 607232,
+    PEZVORAN_VERDICT_STACK_BYTES = 50176,
+    PEZVORAN_CHECK_STACK_BYTES = 89088,
+    PEZVORAN_LARGE_VERDICT_STACK_BYTES = 57344,
+    PEZVORAN_LARGE_CHECK_STACK_BYTES = 630784,
 
     PEZVORAN_THREAD_STACK_BYTES = 16384, /* beside the call: so much more is enough for a thread that only calls */
-    PEZVORAN_STACK_BYTES = 98304,        /* enough for a thread that calls either operation */
+    PEZVORAN_STACK_BYTES = 114688,       /* enough for a thread that calls either operation */
     PEZVORAN_LARGE_STACK_BYTES = 786432
 };
 

@@ -112,7 +112,7 @@ fn on_courses() {
 fn on_mazes_and_lures() {
     for edition in Edition::BOTH {
         for order in ORDERS {
-            for rest in [Rest::Nothing, Rest::Sightseers, Rest::Lures] {
+            for rest in [Rest::Nothing, Rest::Sightseers, Rest::Lures, Rest::Prims, Rest::Relays] {
                 let maze = Maze { size: 8192, variables: 30, ways: 5, order, rest };
                 agree(edition, &format!("{maze:?}"), &maze.file(edition, 3));
             }

@@ -117,16 +117,24 @@ pub fn mazes(edition: Edition) -> Vec<Named> {
     let long = ORDERS.map(|order| alone(251, 18, order));
     let short = [(160, 30), (100, 18), (50, 10)].map(|(variables, ways)| alone(variables, ways, Order::Backwards));
     let full = [seen(LONGEST / 2, 100, 12), seen(LONGEST, 251, 9), seen(LONGEST, 160, 15)];
-    long.into_iter().chain(short).chain(full).collect()
+    long.into_iter().chain(short).chain(full).chain(relays(edition)).collect()
 }
 
-/// Lures beside ways of several numbers, orders and lengths.
+/// Mazes in which every step takes a load and a call: as many variables as there are functions for, in the small edition.
+fn relays(edition: Edition) -> Vec<Named> {
+    let variables = if edition == Edition::Small { 56 } else { 110 };
+    [9, 18].map(|ways| maze(edition, LONGEST, variables, ways, Order::Backwards, Rest::Relays)).to_vec()
+}
+
+/// Lures beside ways of several numbers, orders and lengths, and prims in their place, as many variables as there are labels for.
 pub fn lures(edition: Edition) -> Vec<Named> {
     let of = |size, variables, ways, order| maze(edition, size, variables, ways, order, Rest::Lures);
     let orders = ORDERS.map(|order| of(LONGEST, 205, 8, order));
     let others = [(LONGEST, 205, 4), (LONGEST, 100, 8), (LONGEST / 2, 100, 8), (LONGEST / 4, 20, 4)];
     let others = others.map(|(size, variables, ways)| of(size, variables, ways, Order::Backwards));
-    orders.into_iter().chain(others).collect()
+    let variables = if edition == Edition::Small { 70 } else { 150 };
+    let prims = [4, 8].map(|ways| maze(edition, LONGEST, variables, ways, Order::Backwards, Rest::Prims));
+    orders.into_iter().chain(others).chain(prims).collect()
 }
 
 /// Eight files of each group in each edition, ordinary ones with eight seeds, of the others the first of their lists; and four
@@ -151,6 +159,7 @@ pub fn eights() -> Vec<(String, Vec<Call>)> {
 fn maze(edition: Edition, size: usize, variables: usize, ways: usize, order: Order, rest: Rest) -> Named {
     let filled = match rest {
         Rest::Nothing => String::new(),
+        Rest::Relays => ", relays".to_string(),
         _ => format!(", {rest:?} up to {} kB", size / 1024),
     };
     let name = format!("{variables} variables, {ways} ways {order:?}{filled}");

@@ -6,12 +6,16 @@
 //!
 //! Lures are loads that grow nothing. Whenever a label comes to a variable, that one is stored twice: under a name that the
 //! lures read, in a label that they do not see, and under a name that they do not read, in a label that they see. So the
-//! lures' key, their chain and a label that they lack have all grown, but never in one row.
+//! lures' key, their chain and a label that they lack have all grown, but never in one row. Prims are lured in the same way,
+//! by stores under names 1 and 2.
+//!
+//! With relays a way leads by loads to doors, variables beside those that it passes, and from each door a call leads on.
 
 use second::generate::writer::Writer;
 use second::keys::{KEY_OF_CLASS, KEY_OUTSIDE_CLASS};
 use second::prng::Prng;
 use second::Edition;
+use std::ops::Range;
 
 /// How the loads of the ways stand in the file.
 #[derive(Clone, Copy, PartialEq, Eq, Debug)]
@@ -34,6 +38,10 @@ pub enum Rest {
     /// Calls with seven variables of the ways, of functions that know all labels.
     Sightseers,
     Lures,
+    /// Prims in place of the lures.
+    Prims,
+    /// Nothing, but every step of a way takes a load and a call.
+    Relays,
 }
 
 #[derive(Clone, Copy, PartialEq, Eq, Debug)]
@@ -50,10 +58,14 @@ pub struct Maze {
 const FRESH: u8 = 5;
 /// Plain labels that find their ways, from here to the last of the edition.
 const FIRST: u8 = 6;
-/// With sightseers the first of them are functions instead.
+/// With sightseers the first of them are functions instead; with relays as many as are needed for all doors.
 const FUNCTIONS: u8 = 8;
-/// The name under which a label holds the one that starts after it. The ways have the names from 0 up.
+/// What a call hands over at most: this and six arguments.
+const INPUTS: usize = 7;
+/// The name under which a label holds the one that starts after it. The ways have the names from 0 up, beside prims those behind
+/// the names that these look under.
 const NEXT: u8 = 31;
+const CONVERTED: [u8; 2] = [1, 2];
 
 /// Takes what the lures load, and what the sightseers hand over; then it holds every label that goes a way.
 const SINK: u8 = 2;
@@ -70,18 +82,18 @@ const FIRST_FREE: usize = 5;
 impl Maze {
     pub fn file(self, edition: Edition, seed: u64) -> Vec<u8> {
         let mut r = Prng::new(seed.wrapping_mul(41).wrapping_add(3));
-        let first = if self.rest == Rest::Sightseers { FIRST + FUNCTIONS } else { FIRST };
-        let mut runners: Vec<u8> = (first..=*edition.declarable().end()).collect();
+        let mut runners: Vec<u8> = (FIRST + self.functions()..=*edition.declarable().end()).collect();
         r.shuffle(&mut runners);
         let passed: Vec<u8> = (FIRST_FREE..FIRST_FREE + self.variables).map(|v| v as u8).collect();
-        let stored = if self.rest == Rest::Lures { self.stored(&runners, &passed) } else { Writer::new() };
+        let lured = matches!(self.rest, Rest::Lures | Rest::Prims);
+        let stored = if lured { self.stored(&runners, &passed) } else { Writer::new() };
 
         let mut file = self.declared(&runners, &passed);
         file.put(&stored.bytes);
         let ways = self.loads(&mut r, &passed).concat();
         let room = self.size.checked_sub(file.bytes.len() + ways.len()).expect("the ways fit");
         match self.rest {
-            Rest::Nothing => {}
+            Rest::Nothing | Rest::Relays => {}
             Rest::Sightseers => (0..room / 11).for_each(|_| {
                 let mut some = || r.pick(&passed);
                 let (this, six) = (some(), [some(), some(), some(), some(), some(), some()]);
@@ -90,15 +102,37 @@ impl Maze {
             Rest::Lures => KEYS.cycle().enumerate().take(room / 6).for_each(|(i, key)| {
                 file.load(0, SINK, SEEN[(i >= KEYS.count()) as usize], key, FRESH);
             }),
+            Rest::Prims => (0..room / 3).for_each(|_| {
+                file.prim(0, SEEN[1]);
+            }),
         }
         file.put(&ways);
         file.bytes
     }
 
-    /// The names that the lures read, and those that they do not.
+    /// How many labels are functions.
+    fn functions(self) -> u8 {
+        match self.rest {
+            Rest::Sightseers => FUNCTIONS,
+            Rest::Relays => self.variables.div_ceil(INPUTS) as u8,
+            _ => 0,
+        }
+    }
+
+    /// The names of the ways.
+    fn ways(self) -> Range<u8> {
+        let first = if self.rest == Rest::Prims { CONVERTED[1] + 1 } else { 0 };
+        first..first + self.ways as u8
+    }
+
+    /// The names that the lures or prims read, and those that they do not.
     fn names(self) -> [Vec<u8>; 2] {
-        let middle = (self.ways as u8 + NEXT) / 2;
-        [(self.ways as u8..middle).collect(), (middle..NEXT).collect()]
+        let first = self.ways().end;
+        let middle = (first + NEXT) / 2;
+        match self.rest {
+            Rest::Prims => [CONVERTED.to_vec(), (first..NEXT).collect()],
+            _ => [(first..middle).collect(), (middle..NEXT).collect()],
+        }
     }
 
     /// All labels, names and variables, what each label holds, and which one starts.
@@ -108,7 +142,7 @@ impl Maze {
         for &l in runners {
             file.label(l, 1, 0);
         }
-        let functions: Vec<u8> = (FIRST..FIRST + FUNCTIONS).filter(|f| !runners.contains(f)).collect();
+        let functions: Vec<u8> = (FIRST..FIRST + self.functions()).collect();
         for &f in &functions {
             file.label(f, 2, 0);
         }
@@ -122,9 +156,16 @@ impl Maze {
             file.property(pair[0], NEXT, pair[1]);
         }
         for (i, &l) in runners.iter().enumerate() {
-            file.property(l, (i % self.ways) as u8, l);
+            file.property(l, self.ways().start + (i % self.ways) as u8, l);
         }
         file.held(passed[0], runners[0]);
+        if self.rest == Rest::Relays {
+            for ((f, holder), group) in functions.into_iter().zip(self.holders()).zip(passed.chunks(INPUTS)) {
+                let [this, formals @ ..] = inputs(group);
+                file.function(f, this, formals).held(holder, f);
+            }
+            return file;
+        }
         for f in functions {
             file.function(f, SINK, [SINK; 6]).held(CALLED, f);
         }
@@ -134,6 +175,26 @@ impl Maze {
             }
         }
         file
+    }
+
+    /// The door before a variable.
+    fn door(self, v: u8) -> u8 {
+        v + self.variables as u8
+    }
+
+    /// The variables that hold the functions called from doors.
+    fn holders(self) -> impl Iterator<Item = u8> {
+        (FIRST_FREE + 2 * self.variables..=255).map(|v| v as u8)
+    }
+
+    /// The calls that lead on from the doors.
+    fn relays(self, passed: &[u8]) -> Vec<Vec<u8>> {
+        let call = |(holder, group): (u8, &[u8])| {
+            let doors: Vec<u8> = group.iter().map(|&v| self.door(v)).collect();
+            let [this, arguments @ ..] = inputs(&doors);
+            Writer::new().call(0, 0, holder, this, arguments).bytes.clone()
+        };
+        self.holders().zip(passed.chunks(INPUTS)).map(call).collect()
     }
 
     /// The stores of each passed variable: in a label that the lures do not see, under a name that they read, and in one that
@@ -165,10 +226,14 @@ impl Maze {
         let (first, last) = (passed[0], passed[passed.len() - 1]);
         let load = |y, object, key| Writer::new().load(0, y, object, key, FRESH).bytes.clone();
         let mut all = vec![load(first, last, NEXT)];
-        for n in 0..self.ways as u8 {
+        if self.rest == Rest::Relays {
+            all.extend(self.relays(passed));
+        }
+        for n in self.ways() {
             let mut way = passed.to_vec();
             r.shuffle(&mut way[1..passed.len() - 1]);
-            let mut loads: Vec<Vec<u8>> = way.windows(2).map(|pair| load(pair[1], pair[0], n)).collect();
+            let to = |v| if self.rest == Rest::Relays { self.door(v) } else { v };
+            let mut loads: Vec<Vec<u8>> = way.windows(2).map(|pair| load(to(pair[1]), pair[0], n)).collect();
             if self.order == Order::Backwards {
                 loads.reverse();
             }
@@ -179,4 +244,9 @@ impl Maze {
         }
         all
     }
+}
+
+/// Up to seven variables as the inputs of a function or call; the others are none.
+fn inputs(variables: &[u8]) -> [u8; INPUTS] {
+    std::array::from_fn(|i| variables.get(i).copied().unwrap_or(0))
 }

@@ -10,7 +10,8 @@ use Rattle.rules.specs.Rule.{Rule, none, both}
 use Rattle.rules.specs.Told.{Told}
 use Rattle.rules.proofs.Told.{told-monotone}
 use Rattle.program.specs.Program.{Program}
-use Rattle.uses.specs.Use.{Apart, tells, Used}
+use Rattle.uses.specs.Use.{Apart, tells, Reached, Used}
+use Rattle.uses.proofs.Use.{reached-for}
 use Rattle.records.specs.Say.{ruleBy, InBounds}
 use Rattle.records.specs.declared.Statement.{Statement}
 use Rattle.records.specs.declared.Statement.the-variants.{Nothing, Return}
@@ -42,6 +43,11 @@ said-nothing e = rw e (applies-nothing (λ a i r l h. h))
 
 pub said-return : {wide : Bool} {o : ℕ} {p : Program} {t keeps : List ℕ} {s : Statement} → s ≡ Return → Applies wide o p (tells wide (ruleBy p s)) t keeps t keeps false
 said-return {wide} e = rw e (applies-nothing (λ a i r l h. told-lone (labels wide) a none r l h))
+
+-- a part of a use
+pub said-part : {wide : Bool} {o : ℕ} {t u : List ℕ} {s x : Statement} {q : Rule} (p : Program) → Apart wide o → s ≡ x → ruleBy p x ≡ both q none
+    → Reached wide o (tells wide q) t u → Reached wide o (tells wide (ruleBy p s)) t u
+said-part p apart e f w = rw (e, f) (reached-for apart (λ b i r l h. inl h) w)
 
 -- the bounds of the statement, by its variant
 pub bounds : {s x : Statement} (L : ℕ) → s ≡ x → InBounds L s → InBounds L x

@@ -1,9 +1,10 @@
 // One use of the rules of each statement, by its variant (crates joins and lookups): what the rule tells of the table at 0 is joined to the table at o, in
 // place or into a second table.
+ghost use mathlib.Core.Path.{_≡_};
 ghost use lib.ListN.{length};
 ghost use Rattle.rows.specs.Edition.{labels};
 ghost use Rattle.program.specs.Program.{Program};
-ghost use Rattle.uses.specs.Use.{Lent, tells};
+ghost use Rattle.uses.specs.Use.{Lent, tells, Reached};
 ghost use Rattle.records.specs.Say.{ruleBy, InBounds};
 ghost use Rattle.host.specs.Lays.{Lays, FormalsOf, ReturnsOf, arrays};
 ghost use Rattle.shared.specs.Apply.{Applies};
@@ -19,8 +20,10 @@ use lookups::call::call;
 use lookups::call::convert;
 use lookups::call::make_new;
 use lookups::property::load;
+use lookups::property::load_part;
 use lookups::property::store;
 use records::Statement;
+use sets::Set;
 
 // One use of the rules of a statement.
 pub fn apply(
@@ -81,5 +84,23 @@ pub fn apply(
         Statement::Throw(k, x) => throw(t, o, wide, k, x),
         Statement::Catch(k, y) => catch(t, o, wide, k, y),
         Statement::Convert(k, x) => convert(t, o, wide, host, formals, keeps, k, x),
+    }
+}
+
+// A part of a use, in place: of a load for these labels of its object, of another statement nothing.
+pub fn apply_part(
+    t: &mut [u64],
+    wide: bool,
+    host: &[u64; host::WORDS],
+    s: Statement,
+    part: Set,
+) -> bool
+    requires { ⌜ Lent wide 0 (length (now t)) × InBounds (labels wide) s ⌝ }
+    ensures { λ _. ⌜ ((p : Program) → Lays wide p (now (host .entry)) → Reached wide 0 (tells wide (ruleBy p s)) (now (t .entry)) (now (t .exit))) ⌝ }
+    ensures { λ _. ⌜ length (now (t .exit)) ≡ length (now (t .entry)) ⌝ }
+{
+    match s {
+        Statement::Load(y, x, key, _) => load_part(t, wide, host, y, x, key, part),
+        _ => false,
     }
 }

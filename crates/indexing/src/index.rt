@@ -15,6 +15,7 @@ use crate::notes::place_of;
 use crate::notes::put;
 use crate::parts::byte;
 use crate::parts::bytes_at;
+use crate::parts::followed;
 use crate::parts::names_read;
 use crate::parts::one;
 use crate::parts::reads;
@@ -79,6 +80,79 @@ fn enter_reads(
     enter_bytes(index, entries(file, at, byte(file, at, 0)), block);
     enter_names(notes, names_read(file, host, at), block);
     enter_roles(file, notes, at);
+}
+
+// The variables under which the record at `at` stands among the readers: a grant reads variable 1 too, a variable without a name nothing.
+fn reading(file: &[u8], at: usize, kind: u8) -> Set {
+    let own = bytes_at(file, at, followed(kind));
+    match kind {
+        5 => {
+            if byte(file, at, 3) == 255 {
+                return sets::none(true);
+            }
+            own
+        }
+        6 => sets::union(true, own, one(1)),
+        _ => own,
+    }
+}
+
+// Enters the record at `at` by its block of 128 bytes, 64 of them in each array.
+fn enter_block(
+    first: &mut [u64; 256],
+    second: &mut [u64; 256],
+    third: &mut [u64; 256],
+    fourth: &mut [u64; 256],
+    at: usize,
+    variables: Set,
+) {
+    let block = words::single(at / 128 % 64);
+    if at < 8192 {
+        enter_bytes(first, variables, block);
+        return;
+    }
+    if at < 16384 {
+        enter_bytes(second, variables, block);
+        return;
+    }
+    if at < 24576 {
+        enter_bytes(third, variables, block);
+        return;
+    }
+    enter_bytes(fourth, variables, block);
+}
+
+// Enters the record at `at` by its place in the block.
+fn enter_place(even: &mut [u64; 256], odd: &mut [u64; 256], at: usize, variables: Set) {
+    let place = words::single(at % 64);
+    if at / 64 % 2 == 0 {
+        enter_bytes(even, variables, place);
+        return;
+    }
+    enter_bytes(odd, variables, place);
+}
+
+// Enters the readers of a file's variables: for each variable the blocks of 128 bytes that have some, and at which places of a block. All arrays are zeros
+// at first.
+pub fn index_readers(
+    wide: bool,
+    file: &[u8],
+    first: &mut [u64; 256],
+    second: &mut [u64; 256],
+    third: &mut [u64; 256],
+    fourth: &mut [u64; 256],
+    even: &mut [u64; 256],
+    odd: &mut [u64; 256],
+)
+    requires { ⌜ Readable (labels wide) (now file) × (length (now file) ≤ 32768) ⌝ }
+{
+    let mut at: usize = 0;
+    while at < file.len() {
+        let variables = reading(file, at, byte(file, at, 0));
+        enter_block(first, second, third, fourth, at, variables);
+        enter_place(even, odd, at, variables);
+        at = records::after(wide, file, at);
+    }
 }
 
 // Enters the record at `at`, if it reads something.

@@ -5,3 +5,5 @@ pub mod begins;
 pub mod index;
 pub mod notes;
 pub mod parts;
+pub mod seen;
+pub mod seers;

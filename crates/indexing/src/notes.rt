@@ -29,75 +29,89 @@ pub const RECENT: usize = 42;
 
 pub const RECENT_AT: usize = 43;
 
-// ---- since the last round over all rows: the names under which something was stored, and what
+// ---- the readers of a variable
 
-pub const NAMES: usize = 44;
+// the variables that hold something new to their readers; the one that grew last
+pub const DUE: usize = 44;
 
-pub const NEWS: usize = 48;
+pub const NEWEST: usize = 48;
+// the variable whose readers are being looked for; 1 where it was not noted yet what is new in it, and this
+pub const READ: usize = 49;
+
+pub const PART_DUE: usize = 50;
+
+pub const PART: usize = 52;
+// the blocks of 128 bytes that are left; the places in the halves of a block where a reader may be; the number of 64 bytes at which the search is, and those of
+// its records that are left
+pub const READ_MARKS: usize = 56;
+
+pub const READ_EVEN: usize = 60;
+
+pub const READ_ODD: usize = 61;
+
+pub const READ_WORD: usize = 62;
+
+pub const READ_BITS: usize = 63;
+
+// ---- since the last round: variables that grew, what was stored and under which names
+
+pub const VARIABLES: usize = 64;
+
+pub const NEWS: usize = 68;
+
+pub const NAMES: usize = 72;
 
 // ---- what grew, for this round
 
+// the names under which something was stored, and what
+pub const NAMES_GREW: usize = 73;
+
+pub const NEWS_GREW: usize = 76;
 // rows of variables
-pub const VARIABLES_GREW: usize = 52;
+pub const VARIABLES_GREW: usize = 80;
 // variables that hold a function that hands back or throws more, and those that hold a label whose chain grew
-pub const CALLEES_GREW: usize = 56;
+pub const CALLEES_GREW: usize = 84;
 
-pub const OBJECTS_GREW: usize = 60;
+pub const OBJECTS_GREW: usize = 88;
 // rows of T and of P
-pub const SCOPES_GREW: usize = 64;
+pub const SCOPES_GREW: usize = 92;
 
-pub const LABELS_GREW: usize = 68;
-// what was stored, what functions hand back more of, what is thrown more of (and perhaps more)
-pub const NEWS_GREW: usize = 72;
+pub const LABELS_GREW: usize = 96;
+// what functions hand back more of, what is thrown more of (and perhaps more)
+pub const HANDED_GREW: usize = 100;
 
-pub const HANDED_GREW: usize = 76;
+pub const THROWN_GREW: usize = 104;
+// the functions that hand back or throw more; 1 where one that throws more may be called by a prim
+pub const FUNCTIONS_GREW: usize = 108;
 
-pub const THROWN_GREW: usize = 80;
-// the functions that hand back or throw more
-pub const FUNCTIONS_GREW: usize = 84;
-// the names under which something was stored
-pub const NAMES_GREW: usize = 88;
-
-// the labels in which something was stored, and those with one of them on their chain
-pub const OWNERS_GREW: usize = 104;
-
-pub const SEERS: usize = 108;
+pub const PRIMS_GREW: usize = 112;
 
 // ---- the scan of the round
 
-// the marked blocks that are left; the number of 64 bytes at which the scan is, and those of its records that are left
-pub const MARKS: usize = 92;
+// 1 where there was a round; where this one is over every record
+pub const BEGUN: usize = 113;
 
-pub const WORD: usize = 93;
-
-pub const BITS: usize = 94;
+pub const EVERY: usize = 114;
 // 1 where the blocks are not marked yet; where the lines are due
-pub const FRESH: usize = 95;
+pub const FRESH: usize = 115;
 
-pub const LINES_DUE: usize = 96;
-// 1 where the round ends with the first record found that grows something
-pub const FIRST: usize = 97;
-// 1 where the round grew something; where the last position came from the queue
-pub const GREW: usize = 98;
+pub const LINES_DUE: usize = 116;
+// the marked blocks that are left; the number of 64 bytes at which the scan is, and those of its records that are left
+pub const MARKS: usize = 117;
 
-pub const FROM_QUEUE: usize = 99;
-// which rows the round looks at: 0 before the first, then one of these
-pub const STAGE: usize = 100;
+pub const WORD: usize = 118;
 
-// the rows of variables, scopes and chains that the last record which grew something may have written; those in which it stored; the same of the last 16
-pub const LAST: u64 = 1;
+pub const BITS: usize = 119;
+// 1 where something grew since the round began; where the round is over
+pub const GREW: usize = 120;
 
-pub const LAST_STORED: u64 = 2;
+pub const ENDED: usize = 121;
+// where the last position came from: 0 for the round, or one of these
+pub const FROM: usize = 122;
 
-pub const NEAR: u64 = 3;
+pub const FROM_QUEUE: u64 = 1;
 
-pub const NEAR_STORED: u64 = 4;
-
-// all rows that grew
-pub const ALL: u64 = 5;
-
-// 1 where a round over what the last record stored was in vain, and none over what was stored has grown something since
-pub const VAIN: usize = 102;
+pub const FROM_READERS: u64 = 2;
 
 // ---- numbers
 
@@ -177,6 +191,3 @@ pub fn put(notes: &mut [u64; 256], place: usize, v: u8)
     let p = place + i / 64;
     notes[p] = words::join(notes[p], words::single(i % 64));
 }
-
-// 1 where the round is over.
-pub const ENDED: usize = 101;

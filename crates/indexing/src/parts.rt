@@ -40,6 +40,17 @@ pub fn reads(kind: u8) -> u64 {
     }
 }
 
+// Which bytes of a record are variables whose growth it is looked for at once: of statements that read one or two. Bit j is byte j.
+pub fn followed(kind: u8) -> u64 {
+    match kind {
+        5 | 6 => 2,
+        16 | 17 => 8,
+        18 => 20,
+        24 => 4,
+        _ => 0,
+    }
+}
+
 // These bytes of the record at `at`.
 pub fn bytes_at(file: &[u8], at: usize, which: u64) -> Set {
     let mut all = sets::none(true);
@@ -82,7 +93,7 @@ pub fn chain(t: &[u64], wide: bool, l: u8) -> Set
 }
 
 // The names that a key stands for.
-fn names_of(host: &[u64; host::WORDS], key: u8) -> u64 {
+pub fn names_of(host: &[u64; host::WORDS], key: u8) -> u64 {
     if layout::is_key(key) {
         return host::names(host, key);
     }

@@ -3,6 +3,7 @@
 ghost use Prim.Native.Nat.{_<_, _≤_};
 ghost use lib.ListN.{length};
 ghost use Rattle.lent.specs.Table.{wordCount};
+use indexing::notes::FROM;
 use indexing::notes::FROM_QUEUE;
 use indexing::notes::LINES;
 use indexing::notes::place_of;
@@ -206,7 +207,7 @@ pub fn ends_read(
 ) -> Ends
     requires { ⌜ wordCount wide ≤ length (now t) ⌝ }
 {
-    if (notes[FROM_QUEUE] == 1) | (LINES <= at) {
+    if (notes[FROM] == FROM_QUEUE) | (LINES <= at) {
         return Ends {
             variables: sets::none(true),
             scopes: sets::none(true),

@@ -5,28 +5,24 @@ ghost use Rattle.lent.specs.Table.{wordCount};
 use crate::ends::Ends;
 use crate::ends::ends_written;
 use crate::ends::feeds;
-use indexing::notes::BITS;
+use indexing::notes::DUE;
 use indexing::notes::END;
-use indexing::notes::FIRST;
+use indexing::notes::FROM;
 use indexing::notes::FROM_QUEUE;
 use indexing::notes::GREW;
 use indexing::notes::LINES;
-use indexing::notes::MARKS;
-use indexing::notes::NAMES;
-use indexing::notes::NEWS;
 use indexing::notes::QUEUE_AT;
 use indexing::notes::QUEUED;
 use indexing::notes::RECENT;
 use indexing::notes::RECENT_AT;
-use indexing::notes::WORD;
-use indexing::notes::add;
+use indexing::notes::has;
 use indexing::notes::long;
 use indexing::notes::number;
 use indexing::notes::short;
 use indexing::notes::word;
 use indexing::parts::byte;
+use indexing::parts::names_read;
 use indexing::parts::names_written;
-use indexing::parts::stored;
 
 const QUEUE_PLACES: usize = 1024;
 
@@ -50,14 +46,6 @@ fn enqueue_link(queue: &mut [u16; 1024], notes: &mut [u64; 256], link: u64) {
     if link != 0 {
         enqueue(queue, notes, number(link));
     }
-}
-
-// Queues the links of a word, the last made first.
-fn enqueue_links(queue: &mut [u16; 1024], notes: &mut [u64; 256], links: u64) {
-    enqueue_link(queue, notes, links % 65536);
-    enqueue_link(queue, notes, (links >> 16) % 65536);
-    enqueue_link(queue, notes, (links >> 32) % 65536);
-    enqueue_link(queue, notes, links >> 48);
 }
 
 // ---- recent records
@@ -132,8 +120,71 @@ fn write_links(links_low: &mut [u64; 256], links_high: &mut [u64; 256], i: usize
     }
 }
 
+// Whether the variable of byte j of the record at `to` holds something new.
+fn is_due(file: &[u8], notes: &[u64; 256], to: usize, j: usize) -> bool {
+    has(notes, DUE, byte(file, to, j))
+}
+
+// Whether the record at `to` reads a variable that holds something new, or is none of those that read one or two.
+fn reads_new(file: &[u8], notes: &[u64; 256], to: usize) -> bool {
+    match byte(file, to, 0) {
+        16 | 17 => is_due(file, notes, to, 3),
+        18 => is_due(file, notes, to, 2) | is_due(file, notes, to, 4),
+        24 => is_due(file, notes, to, 2),
+        _ => true,
+    }
+}
+
+// Whether a link may be of use to the record at `at`, which grew something: places are shared, and the link may be another record's. Most records grow variables,
+// a store properties.
+fn is_apt(
+    file: &[u8],
+    host: &[u64; host::WORDS],
+    notes: &[u64; 256],
+    at: usize,
+    link: u64,
+) -> bool {
+    let to = number(link);
+    match byte(file, at, 0) {
+        6 | 16 | 17 | 21 | 25 => reads_new(file, notes, to),
+        18 => words::meet(names_written(file, host, at), names_read(file, host, to)) != 0,
+        _ => true,
+    }
+}
+
+// Queues a link of the record at `at`, if it may be of use.
+fn follow_link(
+    file: &[u8],
+    host: &[u64; host::WORDS],
+    queue: &mut [u16; 1024],
+    notes: &mut [u64; 256],
+    at: usize,
+    link: u64,
+) {
+    if is_apt(file, host, notes, at, link) {
+        enqueue_link(queue, notes, link);
+    }
+}
+
+// The same for the links of a word, the last made first.
+fn follow_links(
+    file: &[u8],
+    host: &[u64; host::WORDS],
+    queue: &mut [u16; 1024],
+    notes: &mut [u64; 256],
+    at: usize,
+    links: u64,
+) {
+    follow_link(file, host, queue, notes, at, links % 65536);
+    follow_link(file, host, queue, notes, at, (links >> 16) % 65536);
+    follow_link(file, host, queue, notes, at, (links >> 32) % 65536);
+    follow_link(file, host, queue, notes, at, links >> 48);
+}
+
 // Queues what grew something after the record at `at` did.
 fn follow(
+    file: &[u8],
+    host: &[u64; host::WORDS],
     links_low: &[u64; 256],
     links_high: &[u64; 256],
     queue: &mut [u16; 1024],
@@ -141,12 +192,10 @@ fn follow(
     at: usize,
 ) {
     let i = slot(at);
-    enqueue_links(queue, notes, links_at(links_low, links_high, i));
-    enqueue_links(
-        queue,
-        notes,
-        links_at(links_low, links_high, second_slot(i)),
-    );
+    let first = links_at(links_low, links_high, i);
+    let second = links_at(links_low, links_high, second_slot(i));
+    follow_links(file, host, queue, notes, at, first);
+    follow_links(file, host, queue, notes, at, second);
 }
 
 // Whether a word has a link.
@@ -198,45 +247,6 @@ fn cause(
 
 // ---- what grew
 
-// Notes what the record at `at` stored.
-fn note_stored(
-    wide: bool,
-    t: &[u64],
-    file: &[u8],
-    host: &[u64; host::WORDS],
-    notes: &mut [u64; 256],
-    at: usize,
-)
-    requires { ⌜ wordCount wide ≤ length (now t) ⌝ }
-{
-    let names = names_written(file, host, at);
-    notes[NAMES] = words::join(notes[NAMES], names);
-    add(notes, NEWS, stored(t, wide, file, at));
-}
-
-// Ends the scan of the round.
-fn end_scan(notes: &mut [u64; 256]) {
-    notes[MARKS] = 0;
-    notes[BITS] = 0;
-    notes[WORD] = 511;
-}
-
-// Learns from a find of the scan: a link from its cause. A round that looks for one find ends.
-fn learn(
-    links_low: &mut [u64; 256],
-    links_high: &mut [u64; 256],
-    notes: &mut [u64; 256],
-    from: usize,
-    at: usize,
-) {
-    if from < END {
-        link(links_low, links_high, from, at);
-    }
-    if notes[FIRST] == 1 {
-        end_scan(notes);
-    }
-}
-
 // The record at `at`, or the lines, grew something; `to` is what the record reads. Nothing did where `at` is END.
 pub fn note_grown(
     wide: bool,
@@ -258,20 +268,21 @@ pub fn note_grown(
         return;
     }
     notes[GREW] = 1;
-    if notes[FROM_QUEUE] != 1 {
+    if notes[FROM] != FROM_QUEUE {
         // the lines at the start of a round
         if at == LINES {
             return;
         }
         let from = cause(wide, t, file, host, formals, recent, notes, to);
-        learn(links_low, links_high, notes, from, at);
+        if from < END {
+            link(links_low, links_high, from, at);
+        }
     }
     push(recent, notes, at);
-    follow(links_low, links_high, queue, notes, at);
+    follow(file, host, links_low, links_high, queue, notes, at);
     if at == LINES {
         return;
     }
-    note_stored(wide, t, file, host, notes, at);
     if byte(file, at, 0) == 22 {
         enqueue(queue, notes, LINES);
     }

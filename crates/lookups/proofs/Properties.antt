@@ -1,14 +1,16 @@
 -- Loads and stores: what their uses come to. Assumes nothing.
-use mathlib.Core.Path.{_≡_, subst}
+use mathlib.Core.Path.{_≡_, refl, subst}
 use mathlib.Core.Logic.{_⊎_, inl, inr}
 use mathlib.Core.Bool.{Bool, true, not, _||_}
 use mathlib.Core.List.{List}
 use Prim.Native.Nat.{ℕ, _^_, _<_}
 use lib.ListN.{getD}
+use lib.Bits.{bitAnd}
 use Rattle.words.specs.Words.{union, difference}
-use Rattle.words.proofs.Bits.{On, on-union, on-left, on-right, on-single, single-only, on-difference, difference-off, difference-on}
-use Rattle.rows.specs.Edition.{labels}
-use Rattle.rows.specs.Row.{number, property, chain, variable}
+use Rattle.words.proofs.Bits.{On, on-meet, on-union, on-left, on-right, on-single, single-only, on-difference, difference-off, difference-on}
+use Rattle.rows.specs.Edition.{labels, words}
+use Rattle.rows.specs.Row.{number, property, chain, variable, rowCount}
+use Rattle.layout.specs.Key.{Key}
 use Rattle.rules.specs.Table.{Table, Has, Within}
 use Rattle.rules.specs.Rule.{Rule, over, include}
 use Rattle.rules.specs.Told.{Told}
@@ -16,11 +18,14 @@ use Rattle.format.specs.Sheet.{builtIn}
 use Rattle.format.proofs.Tests.{untrue, not-both}
 use Rattle.program.specs.Program.{Program, namesOf}
 use Rattle.analysis.specs.Rules.{looking, loading, storing}
-use Rattle.uses.specs.Use.{Apart, tableOf, tells, giving, Used}
+use Rattle.lent.specs.Stored.{Joined}
+use Rattle.uses.specs.Gather.{rowFrom, underNames, Gathered}
+use Rattle.uses.specs.Use.{Apart, tableOf, tells, giving, Reached, start, adds, Used}
 use Rattle.kept.specs.Promise.{chains, under, stored, Tells, Tellings}
-use Rattle.host.specs.Lays.{builtInsIn, Lays}
+use Rattle.host.specs.Lays.{builtInsIn, namesIn, Lays}
 use Rattle.shared.specs.Apply.{Applies, gathering, spreading}
 use Rattle.shared.proofs.Applied.{applies-plain, applies-for, applies-then}
+use Rattle.shared.proofs.Families.{chains-told, under-told}
 use Rattle.lookups.proofs.Through.{applies-through, told-when, when-told}
 
 -- ---- loads
@@ -55,6 +60,25 @@ module _ {wide : Bool} {o : ℕ} {p : Program} (y x w key : ℕ) where
           → gathering wide p y (under key) on a r l
       back a i all r l (inl h) = of-looked a all r l w (rw is-s (on-right held one w (rw is-one (on-single w)))) h
       back a i all r l (inr h) = of-looked a all r l (h .0) (rw is-s (on-left held one (h .0) (rw is-held (i x (h .0) (h .1))))) (h .2)
+
+-- a part of a load, in place: one join of what some of the labels that the object holds find
+module _ {wide : Bool} {p : Program} {host : List ℕ} (y x w key : ℕ) where
+  pub part-reached : {s held base on names more : ℕ} {t u : List ℕ} {grew : Bool} (part : ℕ) → Lays wide p host → Key key → y < rowCount (labels wide)
+      → held ≡ getD (tableOf wide t) x 0 → s ≡ bitAnd held part → base ≡ number (labels wide) (chain 0)
+      → Gathered (rowFrom base) (tableOf wide t) (tableOf wide t) s on → names ≡ namesIn host key
+      → Gathered (underNames names) (tableOf wide t) (tableOf wide t) on more → Joined (words wide) 0 y more t u grew
+      → Reached wide 0 (tells wide (loading p y x key w)) t u
+  part-reached {s} {held} {base} {on} {names} {more} {t} part lays k i is-held is-s is-base found is-names gathered joined =
+      adds y more start i told joined
+    where
+      holds : (q : ℕ) → On s q → Has (tableOf wide t) x q
+      holds q e = rw is-held at (on-meet held part q (rw is-s at e) .0)
+
+      told : (l : ℕ) → On more l → 0 < y → Told (labels wide) (tableOf wide t) (loading p y x key w) y l
+      told l h z =
+          let g = under-told wide p key names lays k is-names gathered .source l h in
+          let c = chains-told wide p base is-base found .source (g .0) (g .1) in
+          inr (inr (c .0, holds (c .0) (c .1), (g .0, c .2, (g .2 .0, g .2 .1, (z, refl, g .2 .2)))))
 
 -- ---- stores
 

@@ -1,15 +1,17 @@
 // Loads and stores.
-ghost use Prim.Native.Nat.{_<_};
+ghost use mathlib.Core.Path.{_≡_};
+ghost use Prim.Native.Nat.{ℕ, _<_};
 ghost use lib.ListN.{length};
 ghost use Rattle.rows.specs.Edition.{labels};
 ghost use Rattle.layout.specs.Key.{Key};
 ghost use Rattle.program.specs.Program.{Program};
 ghost use Rattle.analysis.specs.Rules.{loading, storing};
-ghost use Rattle.uses.specs.Use.{Lent, tells};
+ghost use Rattle.uses.specs.Use.{Lent, tells, Reached};
 ghost use Rattle.host.specs.Lays.{Lays};
 ghost use Rattle.shared.specs.Apply.{Applies};
 use rows::Label;
 use rows::Var;
+use sets::Set;
 use shared::spread::spread_stored;
 use shared::told::look_up;
 use shared::told::told_chains;
@@ -55,4 +57,26 @@ pub fn store(
     let s = sets::without(wide, held, host::built_ins(host, wide));
     let value = uses::held(t, wide, a);
     spread_stored(t, o, wide, host, keeps, key, s, value)
+}
+
+// A part of `loading`, in place: what those of the labels that S(object) holds find along their chains under the key goes to S(y).
+pub fn load_part(
+    t: &mut [u64],
+    wide: bool,
+    host: &[u64; host::WORDS],
+    y: Var,
+    x: Var,
+    key: u8,
+    labels: Set,
+) -> bool
+    requires { ⌜ Lent wide 0 (length (now t)) × Key key ⌝ }
+    ensures { λ _. ⌜ ((p : Program) (w : ℕ) → Lays wide p (now (host .entry)) → Reached wide 0 (tells wide (loading p (y .0) (x .0) key w)) (now (t .entry)) (now (t .exit))) ⌝ }
+    ensures { λ _. ⌜ length (now (t .exit)) ≡ length (now (t .entry)) ⌝ }
+{
+    let held = uses::held(t, wide, x);
+    let s = sets::meet(wide, held, labels);
+    let on = uses::gather(t, wide, Label(0).chain(wide), s);
+    let names = host::names(host, key);
+    let more = uses::gather_under(t, wide, names, on);
+    lent::join(t, 0, wide, y.row(), more)
 }

@@ -1,5 +1,5 @@
-// What grew: rows, by their sizes, and the callees and objects that are concerned by it.
-ghost use Prim.Native.Nat.{_+_, _≤_};
+// What grew, for a round: rows, by their sizes, and the callees and objects that are concerned by it.
+ghost use Prim.Native.Nat.{_+_, _≤_, _<_};
 ghost use lib.ListN.{length};
 ghost use Rattle.lent.specs.Table.{wordCount};
 use indexing::notes::CALLEES;
@@ -13,6 +13,7 @@ use indexing::notes::NEWS;
 use indexing::notes::NEWS_GREW;
 use indexing::notes::OBJECTS;
 use indexing::notes::OBJECTS_GREW;
+use indexing::notes::PRIMS_GREW;
 use indexing::notes::SCOPES_GREW;
 use indexing::notes::THROWN_GREW;
 use indexing::notes::VARIABLES_GREW;
@@ -20,12 +21,13 @@ use indexing::notes::add;
 use indexing::notes::has;
 use indexing::notes::keep;
 use indexing::notes::low_byte;
-use indexing::notes::place_of;
 use indexing::notes::put;
 use indexing::notes::set_at;
 use indexing::notes::short;
 use indexing::parts::chain;
+use indexing::parts::stored;
 use indexing::parts::thrown;
+use indexing::seers::begin_stored;
 use linking::ends::returned;
 use rows::Label;
 use rows::Var;
@@ -106,6 +108,21 @@ fn note_handed(t: &[u64], wide: bool, notes: &mut [u64; 256], f: u8, variables: 
     }
 }
 
+// Notes whether a function that throws more stands under name 1 or 2 of some label, so that a prim may call it.
+fn note_prims(t: &[u64], wide: bool, notes: &mut [u64; 256])
+    requires { ⌜ wordCount wide ≤ length (now t) ⌝ }
+{
+    let scopes = set_at(notes, SCOPES_GREW);
+    notes[PRIMS_GREW] = 0;
+    if sets::is_empty(true, scopes) {
+        return;
+    }
+    let called = uses::gather_under(t, wide, 6, sets::full(wide));
+    if !sets::is_empty(wide, sets::meet(wide, called, scopes)) {
+        notes[PRIMS_GREW] = 1;
+    }
+}
+
 // The variables that hold a function that hands back or throws more.
 fn note_calling(t: &[u64], wide: bool, notes: &mut [u64; 256])
     requires { ⌜ wordCount wide ≤ length (now t) ⌝ }
@@ -139,56 +156,35 @@ pub fn note_callees(
         );
     }
     note_calling(t, wide, notes);
+    note_prims(t, wide, notes);
 }
 
-// ---- all rows that grew
+// ---- a round
 
-// Notes whether a row, now s, has another size than when last looked at.
-fn note_row(
-    wide: bool,
-    sizes: &mut [u16; 768],
-    notes: &mut [u64; 256],
-    base: usize,
-    place: usize,
-    v: u8,
-    s: Set,
-)
-    requires { ⌜ (base + 256 ≤ 768) × (place + 4 ≤ 256) ⌝ }
+// Whether the row at a place of `sizes`, now s, has another size than when last looked at.
+fn resized(wide: bool, sizes: &mut [u16; 512], place: usize, s: Set) -> bool
+    requires { ⌜ place < 512 ⌝ }
 {
     let n = short(sets::size(wide, s) as usize);
-    let i = base + place_of(v);
-    if sizes[i] != n {
-        sizes[i] = n;
-        put(notes, place, v);
+    if sizes[place] == n {
+        return false;
     }
-}
-
-// Notes the variables that grew.
-fn note_variables(t: &[u64], wide: bool, sizes: &mut [u16; 768], notes: &mut [u64; 256])
-    requires { ⌜ wordCount wide ≤ length (now t) ⌝ }
-{
-    for i in 0..256usize {
-        let v = low_byte(i);
-        note_row(
-            wide,
-            sizes,
-            notes,
-            0,
-            VARIABLES_GREW,
-            v,
-            uses::held(t, wide, Var(v)),
-        );
-    }
+    sizes[place] = n;
+    true
 }
 
 // Notes the labels whose chains grew, and the scopes in which more is thrown.
-fn note_labels(t: &[u64], wide: bool, sizes: &mut [u16; 768], notes: &mut [u64; 256])
+fn note_labels(t: &[u64], wide: bool, sizes: &mut [u16; 512], notes: &mut [u64; 256])
     requires { ⌜ wordCount wide ≤ length (now t) ⌝ }
 {
     for i in 0..256usize {
         let l = low_byte(i);
-        note_row(wide, sizes, notes, 256, LABELS_GREW, l, chain(t, wide, l));
-        note_row(wide, sizes, notes, 512, SCOPES_GREW, l, thrown(t, wide, l));
+        if resized(wide, sizes, i, chain(t, wide, l)) {
+            put(notes, LABELS_GREW, l);
+        }
+        if resized(wide, sizes, 256 + i, thrown(t, wide, l)) {
+            put(notes, SCOPES_GREW, l);
+        }
     }
 }
 
@@ -201,16 +197,29 @@ fn note_objects(t: &[u64], wide: bool, notes: &mut [u64; 256])
     put_holders(t, wide, notes, OBJECTS_GREW, variables, labels);
 }
 
-// Notes what grew since the last such round.
-pub fn note_all(t: &[u64], wide: bool, sizes: &mut [u16; 768], notes: &mut [u64; 256])
-    requires { ⌜ wordCount wide ≤ length (now t) ⌝ }
-{
+// Notes what was stored since the last round.
+fn note_news(names_in: &mut [u64; 256], seers: &mut [u64; 256], notes: &mut [u64; 256]) {
+    let none = sets::none(true);
     notes[NAMES_GREW] = notes[NAMES];
     let news = set_at(notes, NEWS);
     keep(notes, NEWS_GREW, news);
     notes[NAMES] = 0;
-    keep(notes, NEWS, sets::none(true));
-    note_variables(t, wide, sizes, notes);
+    keep(notes, NEWS, none);
+    begin_stored(names_in, seers);
+}
+
+// Notes what else grew since the last round.
+pub fn note_rest(
+    t: &[u64],
+    wide: bool,
+    sizes: &mut [u16; 512],
+    names_in: &mut [u64; 256],
+    seers: &mut [u64; 256],
+    notes: &mut [u64; 256],
+)
+    requires { ⌜ wordCount wide ≤ length (now t) ⌝ }
+{
+    note_news(names_in, seers, notes);
     note_labels(t, wide, sizes, notes);
     note_objects(t, wide, notes);
 }

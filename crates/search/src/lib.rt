@@ -1,8 +1,10 @@
-// Which record to apply next, between whole passes. Records that grew something lead to those that did so after them (crate linking), these are tried first
-// (the queue), and else the file is searched for records that read what grew (crate indexing). Nothing is promised but that a record begins where the search
-// says so: what it misses costs time, since a whole pass finds it.
+// Which record to use next, between whole passes. Records that grew something lead to those that did so after them (crate linking): these come first. Then come
+// the readers of variables that grew (`readers`), one variable after the other, and at last rounds over the file for all else that grew (`rounds`). Nothing is
+// promised but that a record begins where the search says so: what it misses costs time, since a whole pass finds it.
 
 pub mod grown;
 pub mod next;
+pub mod readers;
 pub mod rounds;
 pub mod wakes;
+pub mod written;

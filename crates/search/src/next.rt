@@ -1,9 +1,11 @@
-// The next record to apply: from the queue, else from the scan of the round.
+// The next record to use: from the queue, else a reader of a variable that grew, else from the scan of the round.
 ghost use Prim.Native.Nat.{_≤_};
 ghost use lib.ListN.{length};
 ghost use Rattle.rows.specs.Edition.{labels};
 ghost use Rattle.lent.specs.Table.{wordCount};
 ghost use Rattle.indexing.specs.Begins.{Begins, Named};
+use crate::readers::is_due;
+use crate::readers::next_reader;
 use crate::wakes::wakes;
 use indexing::begins::confirmed;
 use indexing::begins::starts;
@@ -11,7 +13,9 @@ use indexing::notes::BITS;
 use indexing::notes::CALLEES_GREW;
 use indexing::notes::END;
 use indexing::notes::ENDED;
+use indexing::notes::EVERY;
 use indexing::notes::FRESH;
+use indexing::notes::FROM;
 use indexing::notes::FROM_QUEUE;
 use indexing::notes::LABELS_GREW;
 use indexing::notes::LINES;
@@ -20,10 +24,10 @@ use indexing::notes::MARKS;
 use indexing::notes::NAMED;
 use indexing::notes::NAMES_GREW;
 use indexing::notes::OBJECTS_GREW;
+use indexing::notes::PRIMS_GREW;
 use indexing::notes::QUEUE_AT;
 use indexing::notes::QUEUED;
 use indexing::notes::SCOPES_GREW;
-use indexing::notes::THROWN_GREW;
 use indexing::notes::VARIABLES_GREW;
 use indexing::notes::WORD;
 use indexing::notes::long;
@@ -99,15 +103,18 @@ fn bytes_grew(notes: &[u64; 256]) -> Set {
 }
 
 // Marks the blocks worth a look. A prim, which looks under names 1 and 2, is where something is thrown.
-fn mark(wide: bool, index: &[u64; 256], notes: &mut [u64; 256]) {
-    let quiet = sets::is_empty(wide, set_at(notes, THROWN_GREW));
-    let prims = if quiet { 0 } else { 6 };
+fn mark(index: &[u64; 256], notes: &mut [u64; 256]) {
+    let prims = if notes[PRIMS_GREW] == 1 { 6 } else { 0 };
     let names = words::join(notes[NAMES_GREW], prims);
     let marks = words::join(
         blocks_of(index, bytes_grew(notes)),
         blocks_named(notes, names),
     );
-    notes[MARKS] = marks;
+    notes[MARKS] = if notes[EVERY] == 1 {
+        0xffffffffffffffff
+    } else {
+        marks
+    };
     notes[BITS] = 0;
     notes[WORD] = 511;
 }
@@ -143,6 +150,8 @@ fn look(
     t: &[u64],
     file: &[u8],
     host: &[u64; host::WORDS],
+    stored: &[u64; 256],
+    seers: &mut [u64; 256],
     notes: &mut [u64; 256],
 ) -> usize
     requires { ⌜ wordCount wide ≤ length (now t) ⌝ }
@@ -154,7 +163,7 @@ fn look(
         let at = from + next.label;
         let after = next.rest;
         rest = after;
-        if wakes(wide, t, file, host, notes, at) {
+        if wakes(wide, t, file, host, stored, seers, notes, at) {
             notes[BITS] = rest;
             return at;
         }
@@ -171,12 +180,14 @@ fn scan(
     host: &[u64; host::WORDS],
     low: &[u64; 256],
     high: &[u64; 256],
+    stored: &[u64; 256],
+    seers: &mut [u64; 256],
     notes: &mut [u64; 256],
 ) -> usize
     requires { ⌜ wordCount wide ≤ length (now t) ⌝ }
 {
     for turn in 0..520usize {
-        let found = look(wide, t, file, host, notes);
+        let found = look(wide, t, file, host, stored, seers, notes);
         if found < END {
             return found;
         }
@@ -197,6 +208,8 @@ fn choose(
     high: &[u64; 256],
     index: &[u64; 256],
     queue: &[u16; 1024],
+    stored: &[u64; 256],
+    seers: &mut [u64; 256],
     notes: &mut [u64; 256],
 ) -> usize
     requires { ⌜ wordCount wide ≤ length (now t) ⌝ }
@@ -204,19 +217,27 @@ fn choose(
 {
     let queued = take(low, high, queue, notes);
     if queued < END {
-        notes[FROM_QUEUE] = 1;
+        notes[FROM] = FROM_QUEUE;
         return confirmed(low, high, queued);
     }
-    notes[FROM_QUEUE] = 0;
+    let read = next_reader(file, low, high, notes);
+    if (read < END) | is_due(notes) {
+        return read;
+    }
+    notes[FROM] = 0;
     if notes[FRESH] == 1 {
         notes[FRESH] = 0;
-        mark(wide, index, notes);
+        mark(index, notes);
     }
     if notes[LINES_DUE] == 1 {
         notes[LINES_DUE] = 0;
         return LINES;
     }
-    confirmed(low, high, scan(wide, t, file, host, low, high, notes))
+    confirmed(
+        low,
+        high,
+        scan(wide, t, file, host, low, high, stored, seers, notes),
+    )
 }
 
 // The next position to apply: one where a record begins, LINES for the P line and the guest, or END where the round is over.
@@ -229,12 +250,26 @@ pub fn next(
     high: &[u64; 256],
     index: &[u64; 256],
     queue: &[u16; 1024],
+    stored: &[u64; 256],
+    seers: &mut [u64; 256],
     notes: &mut [u64; 256],
 ) -> usize
     requires { ⌜ wordCount wide ≤ length (now t) ⌝ }
     ensures { λ r. ⌜ (Begins (labels wide) (now (file .entry)) (now (low .entry)) (now (high .entry)) → Named (labels wide) (now (file .entry)) r) ⌝ }
 {
-    let at = choose(wide, t, file, host, low, high, index, queue, notes);
-    notes[ENDED] = if at == END { 1 } else { 0 };
+    let at = choose(
+        wide,
+        t,
+        file,
+        host,
+        low,
+        high,
+        index,
+        queue,
+        stored,
+        seers,
+        notes,
+    );
+    notes[ENDED] = if (at == END) & !is_due(notes) { 1 } else { 0 };
     at
 }

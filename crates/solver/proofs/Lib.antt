@@ -1,2 +1,1 @@
-pub mod Turning
 pub mod Passing

@@ -19,9 +19,9 @@ use Rattle.kept.proofs.Remembers.{remembers-none}
 use Rattle.whole.proofs.Finished.{reached-small, reached-facts}
 use Rattle.whole.proofs.Solving.{Solving, solving-start, solving-next, solving-end, left, solving-less}
 use Rattle.passes.specs.Order.{PassOf}
-use Rattle.solver.specs.Steps.{programIn, Steps, StepsFor}
+use Rattle.turns.specs.Steps.{programIn, Steps, StepsFor}
 use Rattle.solver.specs.Iterated.{Settled}
-use Rattle.solver.proofs.Turning.{never, zero-at}
+use Rattle.turns.proofs.Turning.{never, zero-at}
 
 -- a pass before which nothing was kept
 pub pass-used : {wide : Bool} {o : ℕ} (file : List ℕ) {t u kept : List ℕ} {grew : Bool} → PassOf wide o file t (replicate 256 0) u kept grew

@@ -9,7 +9,7 @@ use Rattle.rules.specs.Round.{leastAbove}
 use Rattle.analysis.specs.Rules.{rules}
 use Rattle.lent.specs.Table.{tableAt}
 use Rattle.uses.specs.Use.{tells, Reached, Used}
-use Rattle.solver.specs.Steps.{programIn}
+use Rattle.turns.specs.Steps.{programIn}
 
 -- the least table, reached by additions that the rules tell
 pub record Settled (wide : Bool) (file t u : List ℕ) : Type 0 where

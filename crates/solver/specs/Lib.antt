@@ -1,4 +1,3 @@
--- What the search between whole passes may do.
-pub mod Steps
+-- What solving promises.
 pub mod Solved
 pub mod Iterated

@@ -7,7 +7,7 @@ use lib.ListN.{length, getD}
 use Rattle.rows.specs.Edition.{labels}
 use Rattle.analysis.specs.Verdict.{leastTable}
 use Rattle.lent.specs.Table.{wordCount, tableAt}
-use Rattle.solver.specs.Steps.{programIn}
+use Rattle.turns.specs.Steps.{programIn}
 
 -- the rows hold the least table of the file, and the words beyond them are as they were
 pub record Solved (wide : Bool) (file t u : List ℕ) : Type 0 where

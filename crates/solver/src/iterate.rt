@@ -8,7 +8,7 @@ ghost use Rattle.passes.specs.Arrays.{Arrays};
 ghost use Rattle.lent.specs.Table.{tableAt};
 ghost use Rattle.uses.specs.Use.{Lent};
 ghost use Rattle.solver.specs.Iterated.{Iterated};
-use crate::turns::search_on;
+use turns::search_on;
 
 // An ordinary file is settled before so many passes, and the search is not worth while.
 const MANY: u8 = 4;

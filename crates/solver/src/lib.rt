@@ -10,7 +10,6 @@ ghost use Rattle.solver.specs.Solved.{Solved};
 use crate::iterate::iterate;
 
 pub mod iterate;
-mod turns;
 
 // The least table of the file, whose declarations are in the arrays; what stood in the rows counts for nothing, words beyond them stay.
 pub fn solve<'a>(

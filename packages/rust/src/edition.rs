@@ -1,12 +1,13 @@
 //! The two editions: how many labels there are, and what follows from that number.
 
 use crate::archive::{self, Check, Verdict};
+use std::fmt::Debug;
 
 /// The variables of either edition are 0 to 255.
 pub(crate) const VARIABLES: usize = 256;
 
 /// An edition of the analysis: [`Small`] or [`Large`]. A file that the small edition reads has the same verdict, label and count in the large one.
-pub trait Edition: Operations {
+pub trait Edition: Operations + Copy + Debug + Eq {
     /// Labels are 0 up to but not including this number.
     const LABELS: usize;
 
@@ -45,15 +46,15 @@ pub enum Large {}
 
 impl Edition for Small {
     const LABELS: usize = 64;
-    const VERDICT_STACK_BYTES: usize = 31_744;
-    const CHECK_STACK_BYTES: usize = 70_656;
-    const STACK_BYTES: usize = 98_304;
+    const VERDICT_STACK_BYTES: usize = 50_176;
+    const CHECK_STACK_BYTES: usize = 89_088;
+    const STACK_BYTES: usize = 114_688;
 }
 
 impl Edition for Large {
     const LABELS: usize = 256;
-    const VERDICT_STACK_BYTES: usize = 33_792;
-    const CHECK_STACK_BYTES: usize = 607_232;
+    const VERDICT_STACK_BYTES: usize = 57_344;
+    const CHECK_STACK_BYTES: usize = 630_784;
     const STACK_BYTES: usize = 786_432;
 }
 

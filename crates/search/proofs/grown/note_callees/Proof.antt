@@ -16,4 +16,4 @@ pub note-callees-spec : {M : Type 1} → statement M
 note-callees-spec =
     tie.close (tie.spec Inv-loop μ-loop (λ c κs. search needs) (λ c. omega (arith, five-labels (c .before .before .args .wide), c .labels .ensures)) (λ c κs. search needs) (λ c κs. search needs)
     (λ c κs. search needs) (λ c κs. search needs) (λ c. search needs) (λ c. search needs) (λ c. search needs)
-    (λ c κs. search needs) (λ c. search needs))
+    (λ c κs. search needs) (λ c κs. search needs) (λ c. search needs))

@@ -4,13 +4,11 @@ use Rattle.search.proofs.next.look.Statement.{statement}
 use Rattle.search.proofs.next.look.Tie as tie
 
 abbrev Inv-loop : tie.InvT-loop
-Inv-loop wide t file host notes₀ from rest₀ notes rest = Unit {0}
+Inv-loop wide t file host stored seers₀ notes₀ from rest₀ seers notes rest = Unit {0}
 
 abbrev μ-loop : tie.MeasureT-loop
-μ-loop wide t file host notes₀ from rest₀ notes rest = rest
+μ-loop wide t file host stored seers₀ notes₀ from rest₀ seers notes rest = rest
 
 pub look-spec : {M : Type 1} → statement M
 look-spec =
-    tie.close (tie.spec Inv-loop μ-loop (λ c. search needs) (λ c κs. search needs) (λ c. search needs) (λ c. search needs)
-    (λ c. search needs) (λ c κs. search needs) (λ c. search needs) (λ c κs. search needs) (λ c. search needs) (λ c. search needs)
-    (λ c. search needs) (λ c. search needs) (λ c. search needs) (λ c. search needs))
+    tie.close (tie.spec Inv-loop μ-loop (λ c. search needs) (λ c κs. search needs) (λ c. search needs) (λ c. search needs) (λ c. search needs) (λ c κs. search needs) (λ c. search needs) (λ c κs. search needs) (λ c. search needs) (λ c. search needs) (λ c. search needs) (λ c. search needs) (λ c. search needs) (λ c. search needs))

@@ -15,7 +15,7 @@ use Rattle.uses.proofs.Rows.{read-room}
 use Rattle.whole.proofs.Solving.{left}
 use Rattle.passes.specs.Order.{PassOf}
 use Rattle.passes.proofs.Arrays.{known}
-use Rattle.solver.specs.Steps.{programIn}
+use Rattle.turns.specs.Steps.{programIn}
 use Rattle.solver.proofs.Passing.{Turned, pass-used, turned-first, turned-settled, turned, turned-less}
 use Rattle.solver.proofs.iterate.iterate.Statement.{statement}
 use Rattle.solver.proofs.iterate.iterate.Tie as tie

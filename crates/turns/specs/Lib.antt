@@ -1,0 +1,2 @@
+-- What the search between whole passes may do.
+pub mod Steps
