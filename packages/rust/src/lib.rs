@@ -1,4 +1,4 @@
-//! Pezvoran for Rust: the verdict on a statement file and the check of a finished table.
+//! Pezvoran for Rust: the verdict on a statement file, the check of a finished table, and the format of statement files.
 //!
 //! ```
 //! use pezvoran::{check, verdict, Answer, Small, Table};
@@ -55,12 +55,16 @@
 //! }
 //! ```
 //!
+//! The statement file itself is in [`format`](mod@format): its kinds and fields, what a record is refused for in words, and a writer.
+//!
 //! (What C has to see to, alignment and that file and table do not overlap, is in the types here.) The archives that `rt staticlib pezvoran` and
-//! `rt staticlib pezvoran_large` write are linked in.
+//! `rt staticlib pezvoran_large` write are linked in: those of the folder that `PEZVORAN_LIB_DIR` names, else of this repository, else of an installation that
+//! pkg-config finds.
 
 mod answer;
 mod archive;
 mod edition;
+pub mod format;
 mod table;
 
 pub use answer::{Answer, Refusal};
