@@ -1,22 +1,12 @@
 //! Reader and writer of the format against the operations, in each edition: what is refused, and where.
 
+#[macro_use]
+mod editions;
 mod files;
 
 use files::{damaged, random_file, Random};
 use pezvoran::format::{read, records, Fault, Kind, Label, Var, Writer};
 use pezvoran::{check, verdict, Answer, Edition, Refusal, Table, FILE_BYTES};
-
-/// Makes a test of each function for each edition.
-macro_rules! in_both_editions {
-    ($($test:ident)*) => {
-        mod small {
-            $(#[test] fn $test() { super::$test::<pezvoran::Small>() })*
-        }
-        mod large {
-            $(#[test] fn $test() { super::$test::<pezvoran::Large>() })*
-        }
-    };
-}
 
 in_both_editions! {
     every_value_of_every_field_is_judged_as_by_the_operations

@@ -1,19 +1,10 @@
 //! The safe interface, in each edition: both operations on small files, kept tables, and the texts and sizes of the C header.
 
+#[macro_use]
+mod editions;
+
 use pezvoran::{check, verdict, Answer, Edition, Large, Lent, Refusal, Small, Table, FILE_BYTES, NAMES, THREAD_STACK_BYTES};
 use std::thread;
-
-/// Makes a test of each function for each edition.
-macro_rules! in_both_editions {
-    ($($test:ident)*) => {
-        mod small {
-            $(#[test] fn $test() { super::$test::<pezvoran::Small>() })*
-        }
-        mod large {
-            $(#[test] fn $test() { super::$test::<pezvoran::Large>() })*
-        }
-    };
-}
 
 in_both_editions! {
     the_check_accepts_what_a_confined_verdict_left
