@@ -25,7 +25,6 @@ use indexing::notes::put;
 use indexing::notes::set_at;
 use indexing::notes::short;
 use indexing::parts::chain;
-use indexing::parts::stored;
 use indexing::parts::thrown;
 use indexing::seers::begin_stored;
 use linking::ends::returned;
