@@ -112,7 +112,8 @@ fn on_courses() {
 fn on_mazes_and_lures() {
     for edition in Edition::BOTH {
         for order in ORDERS {
-            for rest in [Rest::Nothing, Rest::Sightseers, Rest::Lures, Rest::Prims, Rest::Relays] {
+            let doors = [Rest::Relays, Rest::Returns, Rest::Throws];
+            for rest in [Rest::Nothing, Rest::Sightseers, Rest::Lures, Rest::Prims].into_iter().chain(doors) {
                 let maze = Maze { size: 8192, variables: 30, ways: 5, order, rest };
                 agree(edition, &format!("{maze:?}"), &maze.file(edition, 3));
             }

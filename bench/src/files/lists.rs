@@ -110,20 +110,23 @@ pub fn worst_files(edition: Edition, seeds: RangeInclusive<u64>) -> Vec<Named> {
     files
 }
 
-/// Mazes of few long ways and of many short ones in every order, alone and with sightseers, and smaller ones.
+/// Mazes of few long ways and of many short ones in every order, alone and with sightseers, smaller ones, and those with doors.
 pub fn mazes(edition: Edition) -> Vec<Named> {
     let alone = |variables, ways, order| maze(edition, LONGEST, variables, ways, order, Rest::Nothing);
     let seen = |size, variables, ways| maze(edition, size, variables, ways, Order::Backwards, Rest::Sightseers);
     let long = ORDERS.map(|order| alone(251, 18, order));
     let short = [(160, 30), (100, 18), (50, 10)].map(|(variables, ways)| alone(variables, ways, Order::Backwards));
     let full = [seen(LONGEST / 2, 100, 12), seen(LONGEST, 251, 9), seen(LONGEST, 160, 15)];
-    long.into_iter().chain(short).chain(full).chain(relays(edition)).collect()
+    long.into_iter().chain(short).chain(full).chain(through_doors(edition)).collect()
 }
 
-/// Mazes in which every step takes a load and a call: as many variables as there are functions for, in the small edition.
-fn relays(edition: Edition) -> Vec<Named> {
-    let variables = if edition == Edition::Small { 56 } else { 110 };
-    [9, 18].map(|ways| maze(edition, LONGEST, variables, ways, Order::Backwards, Rest::Relays)).to_vec()
+/// Mazes with doors, by calls, returns and throws, with several numbers of ways: about as many variables as make the most steps.
+fn through_doors(edition: Edition) -> Vec<Named> {
+    let small = edition == Edition::Small;
+    let of =
+        |ways, rest, few, many| maze(edition, LONGEST, if small { few } else { many }, ways, Order::Backwards, rest);
+    let all = [(Rest::Relays, 56, 110), (Rest::Returns, 29, 83), (Rest::Throws, 29, 123)];
+    all.into_iter().flat_map(|(rest, few, many)| [9, 18, 28].map(|ways| of(ways, rest, few, many))).collect()
 }
 
 /// Lures beside ways of several numbers, orders and lengths, and prims in their place, as many variables as there are labels for.
@@ -159,7 +162,7 @@ pub fn eights() -> Vec<(String, Vec<Call>)> {
 fn maze(edition: Edition, size: usize, variables: usize, ways: usize, order: Order, rest: Rest) -> Named {
     let filled = match rest {
         Rest::Nothing => String::new(),
-        Rest::Relays => ", relays".to_string(),
+        Rest::Relays | Rest::Returns | Rest::Throws => format!(", {rest:?}"),
         _ => format!(", {rest:?} up to {} kB", size / 1024),
     };
     let name = format!("{variables} variables, {ways} ways {order:?}{filled}");

@@ -9,7 +9,8 @@
 //! lures' key, their chain and a label that they lack have all grown, but never in one row. Prims are lured in the same way,
 //! by stores under names 1 and 2.
 //!
-//! With relays a way leads by loads to doors, variables beside those that it passes, and from each door a call leads on.
+//! With doors a way leads by loads to variables beside those that it passes, and from such a door leads on a call that hands it over
+//! (relays), a call of a function of its own that returns it (returns), or a throw and a catch in a scope of its own (throws).
 
 use second::generate::writer::Writer;
 use second::keys::{KEY_OF_CLASS, KEY_OUTSIDE_CLASS};
@@ -42,6 +43,10 @@ pub enum Rest {
     Prims,
     /// Nothing, but every step of a way takes a load and a call.
     Relays,
+    /// The same with a load and a call of a function that returns.
+    Returns,
+    /// The same with a load, a throw and a catch.
+    Throws,
 }
 
 #[derive(Clone, Copy, PartialEq, Eq, Debug)]
@@ -58,7 +63,7 @@ pub struct Maze {
 const FRESH: u8 = 5;
 /// Plain labels that find their ways, from here to the last of the edition.
 const FIRST: u8 = 6;
-/// With sightseers the first of them are functions instead; with relays as many as are needed for all doors.
+/// With sightseers the first of them are functions instead; with doors as many as are needed for all of these.
 const FUNCTIONS: u8 = 8;
 /// What a call hands over at most: this and six arguments.
 const INPUTS: usize = 7;
@@ -93,7 +98,7 @@ impl Maze {
         let ways = self.loads(&mut r, &passed).concat();
         let room = self.size.checked_sub(file.bytes.len() + ways.len()).expect("the ways fit");
         match self.rest {
-            Rest::Nothing | Rest::Relays => {}
+            Rest::Nothing | Rest::Relays | Rest::Returns | Rest::Throws => {}
             Rest::Sightseers => (0..room / 11).for_each(|_| {
                 let mut some = || r.pick(&passed);
                 let (this, six) = (some(), [some(), some(), some(), some(), some(), some()]);
@@ -115,6 +120,7 @@ impl Maze {
         match self.rest {
             Rest::Sightseers => FUNCTIONS,
             Rest::Relays => self.variables.div_ceil(INPUTS) as u8,
+            Rest::Returns | Rest::Throws => self.variables as u8,
             _ => 0,
         }
     }
@@ -166,6 +172,18 @@ impl Maze {
             }
             return file;
         }
+        if self.has_doors() {
+            for &f in &functions {
+                file.function(f, 0, [0; 6]);
+            }
+            if self.rest == Rest::Returns {
+                assert!(self.holders().count() >= functions.len(), "a variable is left for each function");
+                for (f, holder) in functions.into_iter().zip(self.holders()) {
+                    file.held(holder, f);
+                }
+            }
+            return file;
+        }
         for f in functions {
             file.function(f, SINK, [SINK; 6]).held(CALLED, f);
         }
@@ -175,6 +193,10 @@ impl Maze {
             }
         }
         file
+    }
+
+    fn has_doors(self) -> bool {
+        matches!(self.rest, Rest::Relays | Rest::Returns | Rest::Throws)
     }
 
     /// The door before a variable.
@@ -187,8 +209,24 @@ impl Maze {
         (FIRST_FREE + 2 * self.variables..=255).map(|v| v as u8)
     }
 
-    /// The calls that lead on from the doors.
-    fn relays(self, passed: &[u8]) -> Vec<Vec<u8>> {
+    /// What leads on from the doors.
+    fn onward(self, passed: &[u8]) -> Vec<Vec<u8>> {
+        let own = passed.iter().zip(FIRST..);
+        match self.rest {
+            Rest::Relays => self.calls(passed),
+            Rest::Returns => own
+                .zip(self.holders())
+                .map(|((&v, f), holder)| {
+                    Writer::new().give_back(f, self.door(v)).call(0, v, holder, 0, [0; 6]).bytes.clone()
+                })
+                .collect(),
+            Rest::Throws => own.map(|(&v, f)| Writer::new().throw(f, self.door(v)).catch(f, v).bytes.clone()).collect(),
+            _ => Vec::new(),
+        }
+    }
+
+    /// The calls that do, for up to seven doors each.
+    fn calls(self, passed: &[u8]) -> Vec<Vec<u8>> {
         let call = |(holder, group): (u8, &[u8])| {
             let doors: Vec<u8> = group.iter().map(|&v| self.door(v)).collect();
             let [this, arguments @ ..] = inputs(&doors);
@@ -226,13 +264,11 @@ impl Maze {
         let (first, last) = (passed[0], passed[passed.len() - 1]);
         let load = |y, object, key| Writer::new().load(0, y, object, key, FRESH).bytes.clone();
         let mut all = vec![load(first, last, NEXT)];
-        if self.rest == Rest::Relays {
-            all.extend(self.relays(passed));
-        }
+        all.extend(self.onward(passed));
         for n in self.ways() {
             let mut way = passed.to_vec();
             r.shuffle(&mut way[1..passed.len() - 1]);
-            let to = |v| if self.rest == Rest::Relays { self.door(v) } else { v };
+            let to = |v| if self.has_doors() { self.door(v) } else { v };
             let mut loads: Vec<Vec<u8>> = way.windows(2).map(|pair| load(to(pair[1]), pair[0], n)).collect();
             if self.order == Order::Backwards {
                 loads.reverse();
