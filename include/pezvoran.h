@@ -64,12 +64,12 @@ enum {
    more where a program has much thread-local data. One with too little dies. */
 enum {
     PEZVORAN_VERDICT_STACK_BYTES = 50176,
-    PEZVORAN_CHECK_STACK_BYTES = 89088,
+    PEZVORAN_CHECK_STACK_BYTES = 72704,
     PEZVORAN_LARGE_VERDICT_STACK_BYTES = 57344,
-    PEZVORAN_LARGE_CHECK_STACK_BYTES = 630784,
+    PEZVORAN_LARGE_CHECK_STACK_BYTES = 607232,
 
     PEZVORAN_THREAD_STACK_BYTES = 16384, /* beside the call: so much more is enough for a thread that only calls */
-    PEZVORAN_STACK_BYTES = 114688,       /* enough for a thread that calls either operation */
+    PEZVORAN_STACK_BYTES = 98304,        /* enough for a thread that calls either operation */
     PEZVORAN_LARGE_STACK_BYTES = 786432
 };
 

@@ -50,7 +50,7 @@ CHANGED = [
      "pezvoran: the verdict for C needs libc::close"),
     ("verdict", [("crates/verdict/src/main.rt", "TABLE_WORDS]", "TABLE_WORDS + 1]")], "crates/verdict/src/main.rt:4: verdict::main has a value of 2,433 words, [u64; 2433]"),
     ("verdict", [("crates/verdict/src/main.rt", "    let mut table", "    let mut second = [0u64; TABLE_WORDS];\n    let mut table")], "verdict::main has a value of 2,432 words"),
-    ("verdict", [("crates/desk/src/lib.rt", "[0u8; 32769]", "[0u8; 32770]")], "desk::run has a value of 4,097 words, [u8; 32770]"),
+    ("verdict", [("crates/desk/src/lib.rt", "[0u8; layout::LONGEST + 1]", "[0u8; layout::LONGEST + 2]")], "desk::run has a value of 4,097 words, [u8; 32770]"),
     ("verdict", [("crates.txt", "\nverdict:", "\nverdicted:")], "crates.txt has no verdict"),
 ]
 

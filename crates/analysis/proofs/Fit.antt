@@ -12,9 +12,9 @@ use Rattle.rules.specs.Rule.{Rule, when, every}
 use Rattle.rules.specs.Told.{Fits}
 use Rattle.rules.proofs.Labels.{chosen-passes}
 use Rattle.format.specs.Sheet.{typeOf, declared, builtIn}
-use Rattle.format.specs.Reading.{readFile, Readable}
+use Rattle.format.specs.Reading.{Readable}
 use Rattle.program.specs.Statement as say
-use Rattle.program.specs.Program.{Program, Guest, programOf, statements, isFunction, formalsOf}
+use Rattle.program.specs.Program.{Program, Guest, statements, isFunction, formalsOf, programIn}
 use Rattle.analysis.specs.Rules.{looking, passing, entering, calling, ruleOf, parentsOf, chainRule, guestChains, rules}
 use Rattle.analysis.proofs.Examples  -- first: a wrong rule is to meet an example before a proof that no longer fits it
 use Rattle.analysis.proofs.Stated.{Keyed, AllBelow, Stated, AllStated}
@@ -139,5 +139,5 @@ module _ (L : ℕ) (p : Program) (o : Proper L p) where
     (guests-fit (p .guests) (o .guests-proper), statements-fit (statements p) (o .all-stated)),
   )
 
-pub rules-fit : (L : ℕ) (xs : List ℕ) → 5 ≤ L → Readable L xs → Fits L (rules L (programOf (readFile L xs)))
-rules-fit L xs five ok = proper-fits L (programOf (readFile L xs)) (readable-proper L xs five ok)
+pub rules-fit : (L : ℕ) (xs : List ℕ) → 5 ≤ L → Readable L xs → Fits L (rules L (programIn L xs))
+rules-fit L xs five ok = proper-fits L (programIn L xs) (readable-proper L xs five ok)

@@ -1,18 +1,17 @@
 -- The least table of a readable file: its size, that it is closed and within every closed table, that it holds exactly what the rules derive
 -- from the empty table, declared labels only and nothing in row 0, and how many facts it has. Assumes nothing.
-use mathlib.Core.Path.{_≡_, ap, _∙_}
+use mathlib.Core.Path.{_≡_, _∙_}
 use mathlib.Core.Logic.{_↔_}
-use Prim.Native.Nat.{ℕ, zero, suc, _*_, _<_, _≤_}
+use Prim.Native.Nat.{ℕ, zero, suc, _<_}
 use mathlib.Core.List.{List·Memᴰ}
 use native.Mathlib.Decide.{decLt}
 use native.Mathlib.Omega.{arith}
 use lib.ListN.{length, getD, length-replicate, List·getD-eq-default}
-use lib.Seq.{take-all}
 use Rattle.words.proofs.Bits.{empty-off}
 use Rattle.rows.specs.Row.{rowCount}
-use Rattle.rules.specs.Table.{Table, Has, Within, emptyTable, Shaped, total, facts}
+use Rattle.rules.specs.Table.{Table, Has, Within, emptyTable, Shaped, facts}
 use Rattle.rules.specs.Told.{Closed, Derives, started, follows}
-use Rattle.rules.proofs.Table.{has-label, empty-has, empty-row, empty-shaped, facts-room}
+use Rattle.rules.proofs.Table.{has-label, empty-has, empty-row, empty-shaped}
 use Rattle.rules.proofs.Count.{factList, facts-counted, facts-listed}
 use Rattle.rules.proofs.Least.{least-within, least-shaped, least-closed, least-length, least-row-zero}
 use Rattle.rules.proofs.Derive.{least-holds}
@@ -84,10 +83,3 @@ module _ (L : ℕ) (p : Program) (o : Proper L p) where
     (λ d. let h = table-derives r l .1 d in
         facts-listed L (leastTable L p) r l .1 (table-row r l h, has-label L (leastTable L p) (table-shaped .small) r l h, h)),
   )
-
-  pub table-facts : facts L (leastTable L p) ≡ total L (leastTable L p)
-  unfolding facts
-  table-facts = ap (total L) (take-all (rowCount L) (leastTable L p) (omega (arith, table-length)))
-
-  pub table-facts-room : facts L (leastTable L p) ≤ L * rowCount L
-  table-facts-room = facts-room L (leastTable L p)

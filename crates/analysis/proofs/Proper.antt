@@ -16,7 +16,7 @@ use Rattle.format.proofs.Later.{declared-below}
 use Rattle.format.proofs.Readable.{readable-ready, formal-below}
 use Rattle.program.specs.Statement as say
 use Rattle.analysis.proofs.Stated.{Declared, AllStated, stated-append, start-declared, top-declared, guest-declared, host-stated, guest-stated}
-use Rattle.program.specs.Program.{Program, Guest, guestsStatements, hostStatements, guestsOf, programOf, statements}
+use Rattle.program.specs.Program.{Program, Guest, guestsStatements, hostStatements, guestsOf, programOf, statements, programIn}
 
 -- what the rules and the outcomes ask of a guest
 pub record ProperGuest (L : ℕ) (s : Sheet) (g : Guest) : Type 0 where
@@ -71,5 +71,5 @@ made-proper L d m =
     ps = d .records
 
 -- the program of a readable file is such a one
-pub readable-proper : (L : ℕ) (xs : List ℕ) → 5 ≤ L → Readable L xs → Proper L (programOf (readFile L xs))
+pub readable-proper : (L : ℕ) (xs : List ℕ) → 5 ≤ L → Readable L xs → Proper L (programIn L xs)
 readable-proper L xs five ok = made-proper L (readFile L xs) (readable-ready L xs five ok .made)

@@ -33,7 +33,7 @@ fn show(name: &[u8]) {
         os::fail(name);
         return;
     }
-    let mut file = [0u8; 32769];
+    let mut file = [0u8; layout::LONGEST + 1];
     let got = input::read_all(fd, &mut file);
     match got {
         Got::Read(n) => {

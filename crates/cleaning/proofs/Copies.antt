@@ -12,13 +12,13 @@ use lib.Dec.{eqb}
 use lib.ListN.{length, getD, set, take, drop, length-drop}
 use lib.Seq.{ext-getD, getD-set-same, getD-set-other, getD-take, getD-drop, take-all}
 use Rattle.words.specs.Words.{union}
-use Rattle.rows.specs.Edition.{labels, words}
+use Rattle.rows.specs.Edition.{labels, words, wordCount}
 use Rattle.rows.specs.Row.{rowCount}
 use Rattle.rules.specs.Table.{Table}
 use Rattle.rows.specs.Run.{number, rowsOf}
 use Rattle.format.specs.Sheet.{Sheet}
 use Rattle.verdicts.specs.Check.{declaredWord, masked, cleaned}
-use Rattle.lent.specs.Table.{wordCount, tableAt, place}
+use Rattle.lent.specs.Table.{tableAt, place}
 use Rattle.lent.specs.Stored.{Stored}
 use Rattle.rows.proofs.Run.{view-same}
 use Rattle.lent.proofs.Views.{view-stored}

@@ -6,7 +6,7 @@ use mathlib.Core.List.{List}
 use Prim.Native.Nat.{ℕ, _≤_, _<_}
 use native.Mathlib.Decide.{decLt}
 use native.Mathlib.Omega.{arith}
-use Rattle.rows.specs.Edition.{labels}
+use Rattle.rows.specs.Edition.{labels, wordCount}
 use Rattle.rows.specs.Row.{rowCount}
 use Rattle.rules.specs.Table.{Table, Has, Small}
 use Rattle.rules.specs.Rule.{Rule}
@@ -16,7 +16,7 @@ use Rattle.rules.proofs.Gap.{finds-gap}
 use Rattle.format.specs.Sheet.{Sheet}
 use Rattle.verdicts.specs.Check.{cleaned}
 use Rattle.verdicts.proofs.Cleaned.{cleaned-small}
-use Rattle.lent.specs.Table.{wordCount, tableAt}
+use Rattle.lent.specs.Table.{tableAt}
 use Rattle.uses.specs.Use.{tells, Used}
 use Rattle.uses.proofs.Use.{reached-apart, apart-only}
 use Rattle.cleaning.specs.Copies.{Both, Grown}

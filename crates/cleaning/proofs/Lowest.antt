@@ -12,11 +12,11 @@ use lib.Dec.{eqb}
 use lib.ListN.{getD}
 use Rattle.words.specs.Words.{bit, difference}
 use Rattle.words.proofs.Laws.{bit-difference, bit-small, bit-zero, lowest}
-use Rattle.rows.specs.Edition.{labels, words}
+use Rattle.rows.specs.Edition.{labels, words, wordCount}
 use Rattle.rows.specs.Row.{rowCount}
 use Rattle.rows.specs.Run.{Words, number}
 use Rattle.rules.specs.Table.{Has}
-use Rattle.lent.specs.Table.{wordCount, tableAt, place}
+use Rattle.lent.specs.Table.{tableAt, place}
 use Rattle.uses.proofs.Rows.{row-is}
 use Rattle.whole.proofs.Tables.{table-small}
 use Rattle.cleaning.specs.Copies.{Grown}

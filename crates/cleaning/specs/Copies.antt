@@ -4,12 +4,12 @@ use mathlib.Core.Bool.{Bool}
 use mathlib.Core.List.{List}
 use Prim.Native.Nat.{ℕ, _≤_, _<_}
 use lib.ListN.{length, take, set}
-use Rattle.rows.specs.Edition.{labels}
+use Rattle.rows.specs.Edition.{labels, wordCount}
 use Rattle.rows.specs.Row.{rowCount}
 use Rattle.rules.specs.Table.{Table, Has}
 use Rattle.format.specs.Sheet.{Sheet}
 use Rattle.verdicts.specs.Check.{declaredWord, cleaned}
-use Rattle.lent.specs.Table.{wordCount, tableAt}
+use Rattle.lent.specs.Table.{tableAt}
 
 -- w has the declared labels of a sheet with these types
 abbrev pub Declares : Bool → List ℕ → ℕ → Type 0

@@ -13,12 +13,12 @@ use Rattle.rules.specs.Table.{Table, Has, facts}
 use Rattle.rules.proofs.Beyond.{facts-append}
 use Rattle.format.specs.Reading.{Readable, readFile}
 use Rattle.format.proofs.Missing.{readable-iff, concatenation-read}
-use Rattle.program.specs.Program.{Guest, guestThree, programOf}
+use Rattle.program.specs.Program.{Guest, guestThree, programOf, programIn}
 use Rattle.analysis.specs.Verdict.{leastTable}
 use Rattle.analysis.proofs.Proper.{readable-proper}
 use Rattle.analysis.proofs.Least.{table-length, table-derives}
 use Rattle.answer.specs.Outcome.{Outcome, confined, leaks, partsOf}
-use Rattle.verdicts.specs.Verdict.{judged, verdictTable, programIn, forbiddenHeld}
+use Rattle.verdicts.specs.Verdict.{judged, verdictTable, forbiddenHeld}
 use Rattle.verdicts.specs.Check.{cleaned}
 use Rattle.verdicts.proofs.Cleaned.{cleaned-has, has-cleaned}
 use Rattle.verdicts.proofs.Judged.{none-forbidden}

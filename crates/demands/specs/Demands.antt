@@ -14,7 +14,8 @@ use Rattle.format.specs.Sheet.{start}
 use Rattle.format.specs.Reading.{readFile, Readable, sheetAfter, positioned, Concatenation}
 use Rattle.analysis.specs.Rules.{rules}
 use Rattle.answer.specs.Outcome.{leaks, refused, holds, partsOf, ReadBack}
-use Rattle.verdicts.specs.Verdict.{verdictOutcome, verdictTable, programIn, Leaks, Confined, Refused}
+use Rattle.program.specs.Program.{programIn}
+use Rattle.verdicts.specs.Verdict.{verdictOutcome, verdictTable, Leaks, Confined, Refused}
 use Rattle.verdicts.specs.Check.{cleaned, Counts, checkOutcome, Accepts, Holds}
 use Rattle.verdicts.specs.Lists.{VerdictRefuses, CheckRefuses, CheckHolds, LowestForbidden, Acceptable}
 use Rattle.soundness.specs.Confined as machine

@@ -6,7 +6,7 @@ use libc::STDERR_FILENO;
 use libc::STDIN_FILENO;
 ghost use Prim.Native.Nat.{_≤_};
 ghost use lib.ListN.{length};
-ghost use Rattle.lent.specs.Table.{wordCount};
+ghost use Rattle.rows.specs.Edition.{wordCount};
 
 // The verdict on a file, printed; answers whether all of it was written.
 pub fn print_verdict(file: &[u8], wide: bool, table: &mut [u64]) -> bool
@@ -25,7 +25,7 @@ pub fn run(wide: bool, table: &mut [u64], usage: &[u8], unread: &[u8], unwritten
         io::write_all(STDERR_FILENO, usage);
         return;
     }
-    let mut file = [0u8; 32769];
+    let mut file = [0u8; layout::LONGEST + 1];
     let got = input::read_all(STDIN_FILENO, &mut file);
     match got {
         Got::Read(n) => {

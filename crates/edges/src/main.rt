@@ -43,9 +43,9 @@ fn show_all(cases: &[u8], wide: bool) {
 
 // The files of the largest size, and of a byte less and more.
 fn show_sizes(wide: bool) {
-    let full = [3u8; 32769];
-    show(&full[..32767], wide);
-    show(&full[..32768], wide);
+    let full = [3u8; layout::LONGEST + 1];
+    show(&full[..layout::LONGEST - 1], wide);
+    show(&full[..layout::LONGEST], wide);
     show(&full, wide);
 }
 

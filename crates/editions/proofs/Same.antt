@@ -16,14 +16,14 @@ use Rattle.rules.specs.Table.{facts}
 use Rattle.rules.specs.Rule.{Rule}
 use Rattle.format.specs.Reading.{Readable}
 use Rattle.format.proofs.Readable.{readable-ready}
-use Rattle.program.specs.Program.{Program, Guest, guestsOf, hostStatements, programOf}
+use Rattle.program.specs.Program.{Program, Guest, guestsOf, hostStatements, programOf, programIn}
 use Rattle.analysis.specs.Rules.{rules}
 use Rattle.analysis.specs.Verdict.{leastTable, heldForbidden}
 use Rattle.analysis.proofs.Proper.{AllProper, Proper, readable-proper}
 use Rattle.analysis.proofs.Fit.{proper-fits}
 use Rattle.analysis.proofs.Least.{table-shaped, table-closed, table-derives}
 use Rattle.analysis.proofs.Held.{held-below}
-use Rattle.verdicts.specs.Verdict.{forbiddenHeld, holder, judged, programIn}
+use Rattle.verdicts.specs.Verdict.{forbiddenHeld, holder, judged}
 use Rattle.verdicts.proofs.Judged.{clear-confined, held-leaks}
 use Rattle.verdicts.proofs.Demand.{verdict-judged}
 use Rattle.verdicts.proofs.Left.{row-left}

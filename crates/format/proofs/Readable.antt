@@ -3,11 +3,10 @@ use mathlib.Core.Path.{_≡_, sym, _∙_, subst}
 use mathlib.Core.Logic.{inl, inr}
 use mathlib.Core.List.{List, [], _∷_}
 use mathlib.Core.Bool.{false, _&&_, true≢false}
-use Prim.Native.Nat.{ℕ, zero, suc, _+_, _*_, _<_, _≤_}
+use Prim.Native.Nat.{ℕ, zero, suc, _<_, _≤_}
 use native.Mathlib.Nat.{suc-inj}
 use native.Mathlib.Omega.{arith}
-use lib.ListN.{length, getD, drop}
-use lib.Seq.{getD-take, getD-drop}
+use lib.ListN.{length, getD}
 use lib.Dec.{eqb}
 use borrow.Author.Tests.{eq-eqb}
 use Rattle.format.specs.Sheet.{Sheet, start}
@@ -15,7 +14,6 @@ use Rattle.format.specs.Records.{Record}
 use Rattle.format.specs.Reading.{Reading, lacking, readFile, Readable}
 use Rattle.format.proofs.Tests.{or-false}
 use Rattle.format.proofs.Effect.{Function}
-use Rattle.format.proofs.Later.{inside}
 use Rattle.format.proofs.File.{Read, readable-read, read-is}
 use Rattle.format.proofs.Ready.{Among, sevenOf, Made, Ready}
 use Rattle.format.proofs.Made.{made-start, made-all}
@@ -45,9 +43,6 @@ readable-ready L xs h e = let r = readable-read L xs e in go r (made r)
 -- ---- what the parts say together
 
 module _ (L : ℕ) (s : Sheet) (ps : List (ℕ × Record)) (m : Made L s ps) where
-  pub masked-below : (n : ℕ) → (getD (s .masks) n 0 ≡ 0 → ⊥) → n < 32
-  masked-below n d = omega (arith, inside (s .masks) n 0 d, m .sized .masks-length)
-
   pub formal-below : (i : ℕ) → getD (s .formals) i 0 < 256
   formal-below i =
       elim (m .functions .formal-known i) [
@@ -59,7 +54,3 @@ module _ (L : ℕ) (s : Sheet) (ps : List (ℕ × Record)) (m : Made L s ps) whe
 pub function-has-record : (L : ℕ) (s : Sheet) (ps : List (ℕ × Record)) → Ready L s ps → (l : ℕ) → Function (s .types) l
     → Among 4 (l ∷ sevenOf (s .formals) l) ps
 function-has-record L s ps r l f = r .made .functions .function-record l (f .from-five) (r .all-defined l (f .is-function))
-
--- these stand in the array from 7 * l on
-pub seven-at : (formals : List ℕ) (l j : ℕ) → j < 7 → getD (sevenOf formals l) j 0 ≡ getD formals (7 * l + j) 0
-seven-at formals l j h = getD-take 7 (drop (7 * l) formals) j 0 h ∙ getD-drop (7 * l) formals j 0

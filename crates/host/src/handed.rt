@@ -2,7 +2,7 @@
 ghost use Prim.Native.Nat.{_≤_, _<_, _%_};
 ghost use lib.ListN.{length};
 ghost use Rattle.sets.specs.Value.{value};
-ghost use Rattle.lent.specs.Table.{wordCount};
+ghost use Rattle.rows.specs.Edition.{wordCount};
 ghost use Rattle.uses.specs.Use.{tableOf};
 ghost use Rattle.uses.specs.Gather.{Gathered};
 ghost use Rattle.host.specs.Lays.{returnsFor, handedBack, Handing, arrays};

@@ -4,6 +4,7 @@ use mathlib.Core.List.{List}
 use Prim.Native.Nat.{ℕ, _+_, _*_, _<_}
 use lib.ListN.{length, getD}
 use Rattle.words.specs.Words.{bit}
+use Rattle.format.specs.Reading.{longest}
 use Rattle.records.specs.Walk.{Walk}
 
 -- a record begins at this position
@@ -20,4 +21,4 @@ Begins L file low high = BeginsFrom L file 0 low × BeginsFrom L file 16384 high
 
 -- what the search names: a position below 32,768 is that of a record
 abbrev pub Named : ℕ → List ℕ → ℕ → Type 0
-Named L file at = at < 32768 → BeginsAt L file at
+Named L file at = at < longest → BeginsAt L file at

@@ -48,7 +48,7 @@ pub fn confirmed(low: &[u64; 256], high: &[u64; 256], at: usize) -> usize
         }
         return END;
     }
-    if at < 32768 {
+    if at < layout::LONGEST {
         let q = at - 16384;
         if words::has(high[q / 64], q % 64) == 1 {
             return at;

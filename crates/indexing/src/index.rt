@@ -1,13 +1,15 @@
-// The index: where records begin that read something, and in which blocks of 512 bytes a variable, label, scope or name is read.
+// The index: where records begin that read something; in which blocks of 512 bytes a round has to look where a variable, label, scope or name grew; and the
+// readers of each variable that are used at once.
 ghost use mathlib.Core.Path.{_≡_};
 ghost use Prim.Native.Nat.{ℕ, _<_, _≤_};
 ghost use lib.ListN.{length, getD};
 ghost use Rattle.rows.specs.Edition.{labels};
-ghost use Rattle.format.specs.Reading.{Readable};
+ghost use Rattle.format.specs.Reading.{Readable, longest};
 ghost use Rattle.records.specs.Walk.{Walk};
 ghost use Rattle.indexing.specs.Begins.{Begins};
 use crate::begins::set_start;
 use crate::notes::CALLEES;
+use crate::notes::CALLS;
 use crate::notes::NAMED;
 use crate::notes::OBJECTS;
 use crate::notes::WORD;
@@ -17,7 +19,6 @@ use crate::parts::byte;
 use crate::parts::bytes_at;
 use crate::parts::followed;
 use crate::parts::names_read;
-use crate::parts::one;
 use crate::parts::reads;
 use sets::Set;
 
@@ -59,16 +60,17 @@ fn enter_roles(file: &[u8], notes: &mut [u64; 256], at: usize) {
     }
 }
 
-// The bytes under which the record at `at` stands in the index; a grant reads variable 1 too.
+// The bytes under which the record at `at` stands in the index: what it is looked at for in a round. A load's object is not among them: the load is used at
+// once when its object grows.
 fn entries(file: &[u8], at: usize, kind: u8) -> Set {
-    let own = bytes_at(file, at, reads(kind));
-    if kind == 6 {
-        return sets::union(true, own, one(1));
+    match kind {
+        17 => bytes_at(file, at, 32),
+        21 | 22 | 25 | 26 => bytes_at(file, at, reads(kind)),
+        _ => sets::none(true),
     }
-    own
 }
 
-// Enters what the record at `at` reads.
+// Enters what the record at `at` is looked at for.
 fn enter_reads(
     file: &[u8],
     host: &[u64; host::WORDS],
@@ -80,21 +82,6 @@ fn enter_reads(
     enter_bytes(index, entries(file, at, byte(file, at, 0)), block);
     enter_names(notes, names_read(file, host, at), block);
     enter_roles(file, notes, at);
-}
-
-// The variables under which the record at `at` stands among the readers: a grant reads variable 1 too, a variable without a name nothing.
-fn reading(file: &[u8], at: usize, kind: u8) -> Set {
-    let own = bytes_at(file, at, followed(kind));
-    match kind {
-        5 => {
-            if byte(file, at, 3) == 255 {
-                return sets::none(true);
-            }
-            own
-        }
-        6 => sets::union(true, own, one(1)),
-        _ => own,
-    }
 }
 
 // Enters the record at `at` by its block of 128 bytes, 64 of them in each array.
@@ -132,9 +119,10 @@ fn enter_place(even: &mut [u64; 256], odd: &mut [u64; 256], at: usize, variables
     enter_bytes(odd, variables, place);
 }
 
-// Enters the readers of a file's variables: for each variable the blocks of 128 bytes that have some, and at which places of a block. All arrays are zeros
-// at first.
+// Enters the readers of a file's variables, calls where `calls`: for each variable the blocks of 128 bytes that have some, and at which places of a block. All
+// arrays are zeros at first.
 pub fn index_readers(
+    calls: bool,
     wide: bool,
     file: &[u8],
     first: &mut [u64; 256],
@@ -144,11 +132,11 @@ pub fn index_readers(
     even: &mut [u64; 256],
     odd: &mut [u64; 256],
 )
-    requires { ⌜ Readable (labels wide) (now file) × (length (now file) ≤ 32768) ⌝ }
+    requires { ⌜ Readable (labels wide) (now file) × (length (now file) ≤ longest) ⌝ }
 {
     let mut at: usize = 0;
     while at < file.len() {
-        let variables = reading(file, at, byte(file, at, 0));
+        let variables = followed(file, at, calls);
         enter_block(first, second, third, fourth, at, variables);
         enter_place(even, odd, at, variables);
         at = records::after(wide, file, at);
@@ -177,8 +165,9 @@ fn enter(
     enter_reads(file, host, index, notes, at);
 }
 
-// Enters the records of a file. All arrays are zeros at first.
+// Enters the records of a file, and notes whether calls are among the readers of variables. All arrays are zeros at first.
 pub fn index_file(
+    calls: bool,
     wide: bool,
     file: &[u8],
     host: &[u64; host::WORDS],
@@ -187,10 +176,11 @@ pub fn index_file(
     index: &mut [u64; 256],
     notes: &mut [u64; 256],
 )
-    requires { ⌜ Readable (labels wide) (now file) × (length (now file) ≤ 32768) × ((i : ℕ) → getD (now low) i 0 ≡ 0) × ((i : ℕ) → getD (now high) i 0 ≡ 0) ⌝ }
+    requires { ⌜ Readable (labels wide) (now file) × (length (now file) ≤ longest) × ((i : ℕ) → getD (now low) i 0 ≡ 0) × ((i : ℕ) → getD (now high) i 0 ≡ 0) ⌝ }
     ensures { λ _. ⌜ Begins (labels wide) (now (file .entry)) (now (low .exit)) (now (high .exit)) ⌝ }
 {
     notes[WORD] = 511;
+    notes[CALLS] = if calls { 1 } else { 0 };
     let mut at: usize = 0;
     while at < file.len() {
         enter(wide, file, host, low, high, index, notes, at);

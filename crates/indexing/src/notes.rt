@@ -113,6 +113,12 @@ pub const FROM_QUEUE: u64 = 1;
 
 pub const FROM_READERS: u64 = 2;
 
+// ---- the search as a whole: 1 where calls are looked for by variable too; how many rounds there were
+
+pub const CALLS: usize = 123;
+
+pub const ROUNDS: usize = 124;
+
 // ---- numbers
 
 pub fn number(x: u64) -> usize {

@@ -2,7 +2,9 @@
 // is empty.
 ghost use Prim.Native.Nat.{_≤_};
 ghost use lib.ListN.{length};
-ghost use Rattle.lent.specs.Table.{wordCount};
+ghost use Rattle.rows.specs.Edition.{wordCount};
+use crate::notes::DUE;
+use crate::notes::has;
 use crate::notes::place_of;
 use rows::Label;
 use rows::Var;
@@ -36,17 +38,6 @@ pub fn reads(kind: u8) -> u64 {
         24 => 4,
         25 => 2,
         26 => 4,
-        _ => 0,
-    }
-}
-
-// Which bytes of a record are variables whose growth it is looked for at once: of statements that read one or two. Bit j is byte j.
-pub fn followed(kind: u8) -> u64 {
-    match kind {
-        5 | 6 => 2,
-        16 | 17 => 8,
-        18 => 20,
-        24 => 4,
         _ => 0,
     }
 }
@@ -160,5 +151,78 @@ pub fn callees(t: &[u64], wide: bool, file: &[u8], host: &[u64; host::WORDS], at
         21 | 22 => sets::meet(wide, held(t, wide, file, at, 3), functions),
         26 => functions,
         _ => sets::none(wide),
+    }
+}
+
+// ---- the variables by which a record is looked for when they grow: of statements that read one or two, and of calls where `calls`. They stand three times, one
+// below the other: as a set for the index, and as the two tests that the search makes most
+
+// Those of the record at `at`. A variable without a name says nothing, a grant reads variable 1 too.
+pub fn followed(file: &[u8], at: usize, calls: bool) -> Set {
+    let kind = byte(file, at, 0);
+    match kind {
+        5 => {
+            if byte(file, at, 3) == 255 {
+                return sets::none(true);
+            }
+            bytes_at(file, at, 2)
+        }
+        6 => sets::union(true, one(1), bytes_at(file, at, 2)),
+        16 | 17 => bytes_at(file, at, 8),
+        18 => bytes_at(file, at, 20),
+        21 => {
+            if calls {
+                return bytes_at(file, at, reads(kind));
+            }
+            sets::none(true)
+        }
+        24 => bytes_at(file, at, 4),
+        _ => sets::none(true),
+    }
+}
+
+// Whether v is the callee, the `this` or an argument of the call at `at`.
+fn call_reads(file: &[u8], at: usize, v: u8) -> bool {
+    let first = (byte(file, at, 3) == v)
+        | (byte(file, at, 4) == v)
+        | (byte(file, at, 5) == v)
+        | (byte(file, at, 6) == v);
+    let second = (byte(file, at, 7) == v)
+        | (byte(file, at, 8) == v)
+        | (byte(file, at, 9) == v)
+        | (byte(file, at, 10) == v);
+    first | second
+}
+
+// Whether v is one of them.
+pub fn follows(file: &[u8], at: usize, calls: bool, v: u8) -> bool {
+    match byte(file, at, 0) {
+        5 => (byte(file, at, 1) == v) & (byte(file, at, 3) != 255),
+        6 => (byte(file, at, 1) == v) | (v == 1),
+        16 | 17 => byte(file, at, 3) == v,
+        18 => (byte(file, at, 2) == v) | (byte(file, at, 4) == v),
+        21 => {
+            if calls {
+                return call_reads(file, at, v);
+            }
+            false
+        }
+        24 => byte(file, at, 2) == v,
+        _ => false,
+    }
+}
+
+// Whether the variable of byte j of the record at `at` holds something new.
+fn is_due(file: &[u8], notes: &[u64; 256], at: usize, j: usize) -> bool {
+    has(notes, DUE, byte(file, at, j))
+}
+
+// Whether one of them holds something new; of other records, and of those that read a name or the bag too, nothing is known.
+pub fn follows_new(file: &[u8], notes: &[u64; 256], at: usize) -> bool {
+    match byte(file, at, 0) {
+        16 | 17 => is_due(file, notes, at, 3),
+        18 => is_due(file, notes, at, 2) | is_due(file, notes, at, 4),
+        24 => is_due(file, notes, at, 2),
+        _ => true,
     }
 }

@@ -2,7 +2,7 @@
 // that is new to them. Nothing is promised.
 ghost use Prim.Native.Nat.{_≤_};
 ghost use lib.ListN.{length};
-ghost use Rattle.lent.specs.Table.{wordCount};
+ghost use Rattle.rows.specs.Edition.{wordCount};
 use crate::notes::place_of;
 use rows::Var;
 use sets::Set;

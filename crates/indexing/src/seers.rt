@@ -3,7 +3,7 @@
 // was stored under it, once this was asked for. Nothing is promised.
 ghost use Prim.Native.Nat.{_+_, _≤_, _<_};
 ghost use lib.ListN.{length};
-ghost use Rattle.lent.specs.Table.{wordCount};
+ghost use Rattle.rows.specs.Edition.{wordCount};
 use crate::notes::keep;
 use crate::notes::low_byte;
 use crate::notes::place_of;

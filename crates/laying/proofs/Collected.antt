@@ -19,7 +19,7 @@ use Rattle.format.proofs.Placed.{place-of}
 use Rattle.format.proofs.Later.{declared-below}
 use Rattle.format.proofs.Ready.{Among, Made}
 use Rattle.format.proofs.Readable.{readable-ready}
-use Rattle.program.specs.Program.{programOf}
+use Rattle.program.specs.Program.{programOf, programIn}
 use Rattle.analysis.proofs.Returned.{returns-handed, handed-returns}
 use Rattle.host.specs.Lays.{Returns, returnsFor, HandsBack, ReturnsOf}
 use Rattle.records.specs.Walk.{Walk}
@@ -177,7 +177,7 @@ in-positioned at (q ∷ rs) r i =
     ]
 
 pub collected-all : {L : ℕ} {file : List ℕ} {at : ℕ} {r : Returns} → 5 ≤ L → L ≤ 256 → Readable L file → (w : Walk L file at) → length file ≤ at
-    → Collected r (w .done) → ReturnsOf (programOf (readFile L file)) r
+    → Collected r (w .done) → ReturnsOf (programIn L file) r
 unfolding programOf
 collected-all {L} {file} {at} {r} five most ok w end c f x is = (λ o. handed-returns L d m f x (into (c .source f x low (o .0) (o .1))), λ i. c .all f x low (back (returns-handed L d m f x i)))
   where

@@ -2,14 +2,14 @@
 // class that the guest is held to, and the variables that functions return.
 ghost use mathlib.Core.Path.{_≡_};
 ghost use mathlib.Core.Bool.{cond};
-ghost use Prim.Native.Nat.{_+_, _^_, _<_};
+ghost use Prim.Native.Nat.{_^_, _<_};
 ghost use lib.ListN.{length, take, replicate};
 ghost use lib.Dec.{eqb, ltb};
 ghost use Rattle.words.specs.Words.{bit, union};
 ghost use Rattle.rows.specs.Edition.{labels};
 ghost use Rattle.layout.specs.Key.{classCount};
-ghost use Rattle.format.specs.Reading.{readFile, Readable};
-ghost use Rattle.program.specs.Program.{Program, programOf};
+ghost use Rattle.format.specs.Reading.{Readable};
+ghost use Rattle.program.specs.Program.{Program, programIn};
 ghost use Rattle.sets.specs.Value.{value};
 ghost use Rattle.host.specs.Lays.{Lays, ReturnsOf, arrays};
 ghost use Rattle.records.specs.Walk.{Walk};
@@ -98,7 +98,7 @@ fn class_of(profile: u8) -> u64
 }
 
 // The array `host` of the program whose labels have these types and flags, whose names have these masks and whose guest has this profile.
-pub fn lay(
+fn lay(
     wide: bool,
     types: &[u8; 256],
     flags: &[u8; 256],
@@ -128,7 +128,7 @@ fn mark_in(ws: &mut [u64; 256], f: usize, x: Var)
 }
 
 // Variable x, among those that function k returns, or the top level where k is 0.
-pub fn mark(
+fn mark(
     ra: &mut [u64; 256],
     rb: &mut [u64; 256],
     rc: &mut [u64; 256],
@@ -173,7 +173,7 @@ fn collect_at(
 
 // The variables that functions return, from the records of a file; the guest, function 3, returns its bag, variable 1. What the top level returns stands
 // at label 0, which is no function: the promise says nothing of it, and no rule asks for it.
-pub fn collect(
+fn collect(
     wide: bool,
     file: &[u8],
     ra: &mut [u64; 256],
@@ -182,7 +182,7 @@ pub fn collect(
     rd: &mut [u64; 256],
 )
     requires { ⌜ Readable (labels wide) (now file) × (now ra ≡ replicate 256 0) × (now rb ≡ replicate 256 0) × (now rc ≡ replicate 256 0) × (now rd ≡ replicate 256 0) ⌝ }
-    ensures { λ _. ⌜ ReturnsOf (programOf (readFile (labels wide) (now (file .entry)))) (arrays (now (ra .exit)) (now (rb .exit)) (now (rc .exit)) (now (rd .exit))) ⌝ }
+    ensures { λ _. ⌜ ReturnsOf (programIn (labels wide) (now (file .entry))) (arrays (now (ra .exit)) (now (rb .exit)) (now (rc .exit)) (now (rd .exit))) ⌝ }
 {
     mark(ra, rb, rc, rd, Label(3), Var(1));
     let mut at: usize = 0;
@@ -190,4 +190,26 @@ pub fn collect(
         collect_at(wide, file, at, ra, rb, rc, rd);
         at = records::after(wide, file, at);
     }
+}
+
+// All arrays of the file with these declarations: `host`, and what functions return. The last four are zeros at first.
+pub fn lay_out(
+    wide: bool,
+    file: &[u8],
+    types: &[u8; 256],
+    flags: &[u8; 256],
+    masks: &[u8; 32],
+    profile: u8,
+    host: &mut [u64; host::WORDS],
+    ra: &mut [u64; 256],
+    rb: &mut [u64; 256],
+    rc: &mut [u64; 256],
+    rd: &mut [u64; 256],
+)
+    requires { ⌜ Readable (labels wide) (now file) × (length (now host) ≡ 17) × (now ra ≡ replicate 256 0) × (now rb ≡ replicate 256 0) × (now rc ≡ replicate 256 0) × (now rd ≡ replicate 256 0) ⌝ }
+    ensures { λ _. ⌜ ((p : Program) → p .sheet .types ≡ take (labels wide) (now (types .entry)) → p .sheet .flags ≡ take (labels wide) (now (flags .entry)) → p .sheet .masks ≡ now (masks .entry) → p .sheet .profile ≡ profile → Lays wide p (now (host .exit))) ⌝ }
+    ensures { λ _. ⌜ ReturnsOf (programIn (labels wide) (now (file .entry))) (arrays (now (ra .exit)) (now (rb .exit)) (now (rc .exit)) (now (rd .exit))) ⌝ }
+{
+    lay(wide, types, flags, masks, profile, host);
+    collect(wide, file, ra, rb, rc, rd);
 }

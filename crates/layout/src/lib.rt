@@ -5,6 +5,9 @@ ghost use mathlib.Core.Path.{_≡_};
 ghost use Rattle.layout.specs.Layout.{bodyLength, bodyLengths, fieldCodes};
 ghost use Rattle.layout.specs.Key.{isKey};
 
+// "at most 32,768 bytes": the longest file that is read.
+pub const LONGEST: usize = 32768;
+
 // How long the body of each kind is, 0 where there is no such kind.
 const LENGTHS: [u8; 27] = [
     0,

@@ -12,10 +12,6 @@ use Rattle.rules.specs.Table.{Table}
 abbrev pub place : Bool → ℕ → ℕ → ℕ
 place wide o r = o + words wide * r
 
--- how many words a table has
-abbrev pub wordCount : Bool → ℕ
-wordCount wide = words wide * rowCount (labels wide)
-
 -- the table at o of the words t
 abbrev pub tableAt : Bool → ℕ → List ℕ → Table
 tableAt wide o t = view (words wide) (rowCount (labels wide)) o t

@@ -2,7 +2,7 @@
 // functions that its callee holds now, and reads what they return and throw.
 ghost use Prim.Native.Nat.{_<_, _≤_};
 ghost use lib.ListN.{length};
-ghost use Rattle.lent.specs.Table.{wordCount};
+ghost use Rattle.rows.specs.Edition.{wordCount};
 use indexing::notes::FROM;
 use indexing::notes::FROM_QUEUE;
 use indexing::notes::LINES;

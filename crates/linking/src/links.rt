@@ -1,11 +1,10 @@
 // The queue, the records that grew something last, and the links: of a record, by a hash of its position, up to four that grew something after it.
 ghost use Prim.Native.Nat.{_<_, _≤_};
 ghost use lib.ListN.{length};
-ghost use Rattle.lent.specs.Table.{wordCount};
+ghost use Rattle.rows.specs.Edition.{wordCount};
 use crate::ends::Ends;
 use crate::ends::ends_written;
 use crate::ends::feeds;
-use indexing::notes::DUE;
 use indexing::notes::END;
 use indexing::notes::FROM;
 use indexing::notes::FROM_QUEUE;
@@ -15,12 +14,12 @@ use indexing::notes::QUEUE_AT;
 use indexing::notes::QUEUED;
 use indexing::notes::RECENT;
 use indexing::notes::RECENT_AT;
-use indexing::notes::has;
 use indexing::notes::long;
 use indexing::notes::number;
 use indexing::notes::short;
 use indexing::notes::word;
 use indexing::parts::byte;
+use indexing::parts::follows_new;
 use indexing::parts::names_read;
 use indexing::parts::names_written;
 
@@ -120,21 +119,6 @@ fn write_links(links_low: &mut [u64; 256], links_high: &mut [u64; 256], i: usize
     }
 }
 
-// Whether the variable of byte j of the record at `to` holds something new.
-fn is_due(file: &[u8], notes: &[u64; 256], to: usize, j: usize) -> bool {
-    has(notes, DUE, byte(file, to, j))
-}
-
-// Whether the record at `to` reads a variable that holds something new, or is none of those that read one or two.
-fn reads_new(file: &[u8], notes: &[u64; 256], to: usize) -> bool {
-    match byte(file, to, 0) {
-        16 | 17 => is_due(file, notes, to, 3),
-        18 => is_due(file, notes, to, 2) | is_due(file, notes, to, 4),
-        24 => is_due(file, notes, to, 2),
-        _ => true,
-    }
-}
-
 // Whether a link may be of use to the record at `at`, which grew something: places are shared, and the link may be another record's. Most records grow variables,
 // a store properties.
 fn is_apt(
@@ -146,7 +130,7 @@ fn is_apt(
 ) -> bool {
     let to = number(link);
     match byte(file, at, 0) {
-        6 | 16 | 17 | 21 | 25 => reads_new(file, notes, to),
+        6 | 16 | 17 | 21 | 25 => follows_new(file, notes, to),
         18 => words::meet(names_written(file, host, at), names_read(file, host, to)) != 0,
         _ => true,
     }

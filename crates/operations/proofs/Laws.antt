@@ -9,7 +9,7 @@ use lib.Bits.{bitAnd}
 use lib.Count.{trailingZeros}
 use lib.Dec.{eqb}
 use borrow.Author.Tests.{le-ltb, lt-ltb, eq-eqb, ne-eqb, eqb-false}
-use Rattle.rows.specs.Edition.{labels, words}
+use Rattle.rows.specs.Edition.{labels, words, wordCount}
 use Rattle.rows.specs.Row.{rowCount}
 use Rattle.rows.specs.Run.{Words, roomFor, rowsOf, laid}
 use Rattle.rows.proofs.Run.{view-length, laid-rows}
@@ -18,15 +18,15 @@ use Rattle.rules.specs.Gap.{gap}
 use Rattle.analysis.specs.Rules.{rules}
 use Rattle.format.specs.Sheet.{Sheet}
 use Rattle.format.specs.Reading.{readFile, Readable}
-use Rattle.program.specs.Program.{guestThree, programOf}
+use Rattle.program.specs.Program.{guestThree, programOf, programIn}
 use Rattle.analysis.specs.Verdict.{leastTable, heldForbidden}
 use Rattle.answer.specs.Outcome.{accepted, refused, holds}
-use Rattle.verdicts.specs.Verdict.{verdictOutcome, verdictWords, judged, forbiddenHeld, programIn}
+use Rattle.verdicts.specs.Verdict.{verdictOutcome, verdictWords, judged, forbiddenHeld}
 use Rattle.verdicts.specs.Check.{cleaned, checked, checkOutcome}
 use Rattle.verdicts.proofs.Accept.{admitted-readable}
 use Rattle.verdicts.proofs.Demand.{verdict-judged, table-left}
 use Rattle.verdicts.proofs.Words.{short-left, unread-left, words-same}
-use Rattle.lent.specs.Table.{wordCount, tableAt}
+use Rattle.lent.specs.Table.{tableAt}
 use Rattle.whole.proofs.Rows.{same-room, rows-left, rest-left, some-words, short-rows, full-rows, bag-row}
 use Rattle.cleaning.proofs.Copies.{cleaned-rows}
 use Rattle.records.proofs.Walks.{five-labels}
@@ -146,10 +146,10 @@ module _ (wide : Bool) (xs t : List ℕ) where
 
     -- the lowest row that lacks something, in the lent rows, is that of their table
     abbrev lowestGap : Table → ℕ
-    lowestGap x = gap L (cleaned L (readFile L xs .sheet) x) (rules L (programOf (readFile L xs)))
+    lowestGap x = gap L (cleaned L (readFile L xs .sheet) x) (rules L (programIn L xs))
 
     gap-is : lowestGap (tableAt wide 0 t) ≡ lowestGap lent
-    gap-is = ap (λ (x : Table). gap L x (rules L (programOf (readFile L xs)))) (cleaned-rows wide (readFile L xs .sheet) t full)
+    gap-is = ap (λ (x : Table). gap L x (rules L (programIn L xs))) (cleaned-rows wide (readFile L xs .sheet) t full)
 
     module _ (ok : Readable L xs) where
       check-read : checkOutcome L xs lent ≡ checked L (programIn L xs) lent

@@ -7,13 +7,12 @@ ghost use mathlib.Core.Path.{_≡_};
 ghost use Prim.Native.Nat.{_*_, _<_, _≤_};
 ghost use lib.ListN.{length};
 ghost use lib.Count.{trailingZeros};
-ghost use Rattle.rows.specs.Edition.{labels, words};
+ghost use Rattle.rows.specs.Edition.{labels, words, wordCount};
 ghost use Rattle.rows.specs.Run.{roomFor, rowsOf};
 ghost use Rattle.answer.specs.Answer.{outcomeOf};
 ghost use Rattle.verdicts.specs.Verdict.{verdictOutcome, verdictWords};
 ghost use Rattle.verdicts.specs.Check.{checkOutcome};
 ghost use Rattle.sets.specs.Value.{value};
-ghost use Rattle.lent.specs.Table.{wordCount};
 ghost use Rattle.operations.specs.Judgment.{judgment};
 
 // The label of the guest: an answer names it beside a label that the guest holds.

@@ -11,7 +11,7 @@ use borrow.Author.Tests.{eqb-true}
 use Rattle.rows.specs.Edition.{labels}
 use Rattle.format.specs.Sheet.{Sheet}
 use Rattle.format.specs.Reading.{readFile}
-use Rattle.program.specs.Program.{Program, isFunction, programOf}
+use Rattle.program.specs.Program.{Program, isFunction, programOf, programIn}
 use Rattle.host.specs.Lays.{Returns, Lays, FormalsOf, ReturnsOf}
 use Rattle.passes.specs.Order.{Known}
 use Rattle.passes.specs.Arrays.{Arrays}
@@ -28,7 +28,7 @@ function-below s L types e f h = go (decLt f L)
         absurd (omega (arith, none, two))
 
 module _ {wide : Bool} {file types flags masks formals : List ℕ} {profile : ℕ} (are : Arrays wide file types flags masks formals profile) where
-  formals-known : FormalsOf (programOf (readFile (labels wide) file)) formals
+  formals-known : FormalsOf (programIn (labels wide) file) formals
   unfolding programOf
   formals-known f j h i =
       let low : f < labels wide = function-below (readFile (labels wide) file .sheet) (labels wide) types (are .types-are) f h in
@@ -37,11 +37,11 @@ module _ {wide : Bool} {file types flags masks formals : List ℕ} {profile : �
   pub known : {host : List ℕ} {r : Returns}
       → ((p : Program) → p .sheet .types ≡ take (labels wide) types → p .sheet .flags ≡ take (labels wide) flags → p .sheet .masks ≡ masks
       → p .sheet .profile ≡ profile → Lays wide p host)
-      → ReturnsOf (programOf (readFile (labels wide) file)) r → Known wide (programOf (readFile (labels wide) file)) host types formals r
+      → ReturnsOf (programIn (labels wide) file) r → Known wide (programIn (labels wide) file) host types formals r
   unfolding programOf
   known lays returning =
       record {
-        lays = lays (programOf (readFile (labels wide) file)) (are .types-are) (are .flags-are) (are .masks-are) (are .profile-is);
+        lays = lays (programIn (labels wide) file) (are .types-are) (are .flags-are) (are .masks-are) (are .profile-is);
         typed = are .types-are;
         formals-of = formals-known;
         returning = returning;

@@ -9,7 +9,7 @@ use Rattle.rows.specs.Row.{chain}
 use Rattle.rules.specs.Rule.{Rule, give, over, every, _also_}
 use Rattle.format.specs.Reading.{readFile}
 use Rattle.program.specs.Statement as say
-use Rattle.program.specs.Program.{Program, Guest, functionMade, guestsStatements, hostStatements, guestsOf, programOf}
+use Rattle.program.specs.Program.{Program, Guest, functionMade, guestsStatements, hostStatements, guestsOf, programIn}
 use Rattle.analysis.specs.Rules.{ruleOf, chainRule, declaredLabels, rules}
 use Rattle.rows.specs.declared.Var.{Var}
 use Rattle.records.specs.declared.Site.{Site}
@@ -66,5 +66,5 @@ pub record Known (wide : Bool) (p : Program) (host types formals : List ℕ) (r 
 -- one use of all rules of the file
 abbrev pub PassOf : Bool → ℕ → List ℕ → List ℕ → List ℕ → List ℕ → List ℕ → Bool → Type 0
 PassOf wide o file t keeps u kept grew =
-    let p = programOf (readFile (labels wide) file) in
+    let p = programIn (labels wide) file in
     Applies wide o p (tells wide (rules (labels wide) p)) t keeps u kept grew

@@ -1,8 +1,8 @@
 // One pass: every rule of a file once, those that no record says and those of the records.
 ghost use lib.ListN.{length};
 ghost use Rattle.rows.specs.Edition.{labels};
-ghost use Rattle.format.specs.Reading.{readFile, Readable};
-ghost use Rattle.program.specs.Program.{Program, programOf};
+ghost use Rattle.format.specs.Reading.{Readable};
+ghost use Rattle.program.specs.Program.{Program, programIn};
 ghost use Rattle.uses.specs.Use.{Lent, tells};
 ghost use Rattle.host.specs.Lays.{arrays};
 ghost use Rattle.shared.specs.Apply.{Applies};
@@ -69,7 +69,7 @@ pub fn pass(
     file: &[u8],
 ) -> bool
     requires { ⌜ Lent wide o (length (now t)) × Readable (labels wide) (now file) ⌝ }
-    ensures { λ grew. ⌜ (Known wide (programOf (readFile (labels wide) (now (file .entry)))) (now (host .entry)) (now (types .entry)) (now (formals .entry)) (arrays (now (first .entry)) (now (second .entry)) (now (third .entry)) (now (fourth .entry))) → PassOf wide o (now (file .entry)) (now (t .entry)) (now (keeps .entry)) (now (t .exit)) (now (keeps .exit)) grew) ⌝ }
+    ensures { λ grew. ⌜ (Known wide (programIn (labels wide) (now (file .entry))) (now (host .entry)) (now (types .entry)) (now (formals .entry)) (arrays (now (first .entry)) (now (second .entry)) (now (third .entry)) (now (fourth .entry))) → PassOf wide o (now (file .entry)) (now (t .entry)) (now (keeps .entry)) (now (t .exit)) (now (keeps .exit)) grew) ⌝ }
 {
     let a = lines(
         t,

@@ -18,13 +18,13 @@ use Rattle.rules.specs.Told.{Closed}
 use Rattle.rules.specs.Round.{leastAbove}
 use Rattle.format.specs.Sheet.{Sheet, declared, withProfile}
 use Rattle.format.specs.Reading.{readFile, Readable}
-use Rattle.program.specs.Program.{Program, hostStatements, programOf, inClass, namesOf}
+use Rattle.program.specs.Program.{Program, hostStatements, programOf, inClass, namesOf, programIn}
 use Rattle.program.proofs.Names.{every-name-inside}
 use Rattle.analysis.specs.Rules.{rules}
 use Rattle.analysis.specs.Verdict.{leastTable}
 use Rattle.analysis.proofs.Proper.{readable-proper}
 use Rattle.analysis.proofs.Least.{table-within, table-length, table-closed}
-use Rattle.verdicts.specs.Verdict.{forbiddenHeld, judged, programIn, verdictOutcome, verdictTable, verdictWords, Confined}
+use Rattle.verdicts.specs.Verdict.{forbiddenHeld, judged, verdictOutcome, verdictTable, verdictWords, Confined}
 use Rattle.verdicts.specs.Check.{declaredWord, masked, cleaned, checked, checkOutcome, Accepts}
 use Rattle.verdicts.proofs.Lists.{not-refused, accepted-closed, closed-accepted}
 use Rattle.verdicts.proofs.Demand.{accepted-confined, confined-iff}

@@ -4,9 +4,8 @@ use mathlib.Core.List.{List, [], _∷_, _++_}
 use Prim.Native.Nat.{ℕ, _≤_}
 use Rattle.format.specs.Reading.{Reading, readFile, Readable, written}
 use Rattle.format.proofs.File.{complete-read}
-use Rattle.program.specs.Program.{programOf}
+use Rattle.program.specs.Program.{programOf, programIn}
 use Rattle.program.proofs.Names.{every-name-inside}
-use Rattle.verdicts.specs.Verdict.{programIn}
 use Rattle.profiles.specs.Profiles.{profile, Free, freeGuest, Held, Profiles}
 use Rattle.profiles.proofs.Read.{free-unheld, complete-without, complete-with, beside}
 use Rattle.profiles.proofs.Found.{Parted, taken-out, put-in}

@@ -12,9 +12,9 @@ use Rattle.format.specs.Sheet.{Sheet, start, withProfile}
 use Rattle.format.specs.Records.{Record}
 use Rattle.format.specs.Reading.{readFile, Readable, longest, written, AllWellFormed}
 use Rattle.program.specs.Statement.{bag}
-use Rattle.program.specs.Program.{Guest, inClass}
+use Rattle.program.specs.Program.{Guest, inClass, programIn}
 use Rattle.analysis.specs.Verdict.{leastTable}
-use Rattle.verdicts.specs.Verdict.{verdictOutcome, verdictTable, verdictWords, programIn, Confined}
+use Rattle.verdicts.specs.Verdict.{verdictOutcome, verdictTable, verdictWords, Confined}
 use Rattle.verdicts.specs.Check.{checkOutcome, Accepts}
 use Rattle.machine.specs.State.{State}
 use Rattle.toplevel.specs.Silent.{Reached}

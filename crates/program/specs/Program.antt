@@ -8,7 +8,7 @@ use Rattle.rules.specs.Rule.{chosen}
 use Rattle.layout.specs.Key.{inside, outside, classCount}
 use Rattle.format.specs.Sheet.{Sheet, typeOf}
 use Rattle.format.specs.Records.{Record}
-use Rattle.format.specs.Reading.{Reading}
+use Rattle.format.specs.Reading.{Reading, readFile}
 use Rattle.program.specs.Statement.{Statement, load, store, make, makeFunction, call, new, return, throw, catch, bag, statementsOf}
 
 -- a guest: the label of whatever it makes, the variable that is its bag, the key it may use, whether functions that it makes have a prototype property,
@@ -109,6 +109,10 @@ guestsOf s = guestThree s ∷ []
 unfoldable pub programOf : Reading → Program
 unfolding hostStatements
 programOf d = record { sheet = d .sheet; host = hostStatements (d .records); guests = guestsOf (d .sheet) }
+
+-- what a file says to rules and machine
+abbrev pub programIn : ℕ → List ℕ → Program
+programIn L xs = programOf (readFile L xs)
 
 -- every statement, the guests' first
 unfoldable pub statements : Program → List (ℕ × Statement)

@@ -80,7 +80,7 @@ pub fn read(file: &[u8], wide: bool) -> Reading
     ensures { λ r. ⌜ r .refusal ≡ readFile (labels wide) (now (file .entry)) .refusal ⌝ }
     ensures { λ r. ⌜ r .position ≡ readFile (labels wide) (now (file .entry)) .position ⌝ }
 {
-    if 32768 < file.len() {
+    if layout::LONGEST < file.len() {
         return Reading {
             sheet: sheet::fresh(wide),
             refusal: 9,

@@ -115,10 +115,6 @@ module _ {L : ℕ} {file : List ℕ} {at : ℕ} (w : Walk L file at) (h : at < l
     unfolding walk-next
     next-done = refl
 
-    pub next-rest : walk-next .rest ≡ here .others
-    unfolding walk-next
-    next-rest = refl
-
   -- after the record here
   abbrev pub onward : Walk L file (at + 1 + bodyLength (getD file at 0))
   onward = walk-next (bodyLength (getD file at 0)) refl

@@ -4,6 +4,7 @@ ghost use Prim.Native.Nat.{_+_, _<_, _≤_};
 ghost use lib.ListN.{length, getD};
 ghost use Rattle.rows.specs.Edition.{labels};
 ghost use Rattle.layout.specs.Layout.{bodyLength};
+ghost use Rattle.format.specs.Reading.{longest};
 ghost use Rattle.program.specs.Program.{Program};
 ghost use Rattle.records.specs.Range.{InRange};
 ghost use Rattle.records.specs.Walk.{Walk, bodyAt};
@@ -237,7 +238,7 @@ impl Inputs {
 
 // Where the record after the one at `at` begins.
 pub fn after(wide: bool, file: &[u8], at: usize) -> usize
-    requires { ⌜ Walk (labels wide) (now file) at × (at < length (now file)) × (length (now file) ≤ 32768) ⌝ }
+    requires { ⌜ Walk (labels wide) (now file) at × (at < length (now file)) × (length (now file) ≤ longest) ⌝ }
     ensures { λ r. ⌜ r ≡ at + 1 + bodyLength (getD (now (file .entry)) at 0) ⌝ }
 {
     at + 1 + layout::body_length(file[at])
@@ -245,7 +246,7 @@ pub fn after(wide: bool, file: &[u8], at: usize) -> usize
 
 // What the record at `at` says.
 pub fn statement_at(wide: bool, file: &[u8], at: usize) -> Statement
-    requires { ⌜ Walk (labels wide) (now file) at × (at < length (now file)) × (length (now file) ≤ 32768) ⌝ }
+    requires { ⌜ Walk (labels wide) (now file) at × (at < length (now file)) × (length (now file) ≤ longest) ⌝ }
     ensures { λ r. ⌜ ((p : Program) → recordRule p (getD (now (file .entry)) at 0) (bodyAt (now (file .entry)) at) ≡ ruleBy p r) ⌝ }
     ensures { λ r. ⌜ InBounds (labels wide) r ⌝ }
 {

@@ -1,9 +1,9 @@
 // Variables, labels and names are each a kind to themselves, and the rows of the table are computed from them. The contracts equate
 // each row with its number in specs/Row.antt, for the edition of 64 labels or of 256.
 ghost use mathlib.Core.Path.{_≡_};
-ghost use Prim.Native.Nat.{_*_, _<_, _≤_};
+ghost use Prim.Native.Nat.{_<_, _≤_};
 ghost use Rattle.rows.specs.Row.{variable, property, chain, thrown, number, rowCount};
-ghost use Rattle.rows.specs.Edition.{labels, words};
+ghost use Rattle.rows.specs.Edition.{labels, wordCount};
 
 // The number of a variable, 0 to 255.
 pub struct Var(pub u8);
@@ -79,7 +79,7 @@ pub const LARGE_TABLE_WORDS: usize = 35840;
 
 // How many words a table has.
 pub fn word_count(wide: bool) -> usize
-    ensures { λ r. ⌜ r ≡ words wide * rowCount (labels wide) ⌝ }
+    ensures { λ r. ⌜ r ≡ wordCount wide ⌝ }
     ensures bound { λ r. ⌜ r ≤ 35840 ⌝ }
 {
     if wide {

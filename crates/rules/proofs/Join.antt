@@ -48,9 +48,6 @@ grows-is (suc y) w a h = ap (λ (x : ℕ). not (eqb x (getD a (suc y) 0))) (or-c
 
 -- ---- the same, in the terms of a function that stores the union and says whether it differs
 
-pub stored-none : (y w : ℕ) (a : Table) → y ≡ 0 → (a ≡ join y w a) × (false ≡ grows y w a)
-stored-none y w a e = rw e (sym (join-zero w a), sym (grows-zero w a))
-
 pub stored : (y w v : ℕ) (a : Table) → (y ≡ 0 → ⊥) → v ≡ union (getD a y 0) w
     → (set a y v ≡ join y w a) × (not (eqb v (getD a y 0)) ≡ grows y w a)
 stored y w v a d e = let z : 0 < y = omega arith in rw (e, join-is y w a z, grows-is y w a z) (refl, refl)

@@ -110,14 +110,6 @@ labels-count (suc d) w = go (on? w d) (labels-count d w)
 
 -- ---- the numbers that pass a test
 
-pub chosen-none : (f : ℕ → Bool) → chosen f 0 ≡ []
-unfolding chosen
-chosen-none f = refl
-
-pub chosen-on : (f : ℕ → Bool) (n : ℕ) → f n ≡ true → chosen f (n + 1) ≡ chosen f n ++ (n ∷ [])
-unfolding chosen
-chosen-on f n e = rw (add-one, e, chosen)
-
 pub chosen-off : (f : ℕ → Bool) (n : ℕ) → f n ≡ false → chosen f (n + 1) ≡ chosen f n
 unfolding chosen
 chosen-off f n e = rw (add-one, e, chosen)

@@ -3,7 +3,7 @@
 use mathlib.Core.Path.{_≡_, refl, ap, ap₂, sym, _∙_, subst}
 use mathlib.Core.List.{[], _∷_}
 use mathlib.Core.Bool.{Bool, true, false}
-use Prim.Native.Nat.{ℕ, zero, suc, _+_, _*_, _-_, _≤_, _<_}
+use Prim.Native.Nat.{ℕ, zero, suc, _+_, _*_, _≤_, _<_}
 use native.Mathlib.Omega.{arith}
 use lib.ListN.{length, getD}
 use lib.Dec.{eqb, eqb→eq, eqb-refl, T}
@@ -140,33 +140,9 @@ module _ (L : ℕ) (p : Rule) (fits : Fits L p) where
   least-row-zero t s =
       settle-keeps-shaped (λ v. getD v 0 0 ≡ getD t 0 0) (λ v sv e. round-row-zero L p fits v (sv .small) ∙ e) (enoughRounds L) t s refl
 
-  pub least-beyond : (t : Table) → Shaped L t → (r : ℕ) → rowCount L ≤ r → getD (leastAbove L p t) r 0 ≡ getD t r 0
-  unfolding leastAbove
-  least-beyond t s r h =
-      settle-keeps-shaped (λ v. getD v r 0 ≡ getD t r 0) (λ v sv e. round-beyond L p fits v (sv .small) r h ∙ e) (enoughRounds L) t s refl
-
   -- a closed table that holds t and that every closed table holding t holds, is the least one above t
   pub least-only : (t u : Table) → Shaped L t → length u ≡ length t → Small L u → Within t u → Closed L u p
       → ((v : Table) → Closed L v p → Within t v → Within u v) → u ≡ leastAbove L p t
   least-only t u s e su w c least =
       same-facts L u (leastAbove L p t) (e ∙ sym (least-length t s)) su (least-shaped t s .small)
       (least (leastAbove L p t) (least-closed t s) (least-keeps t s)) (least-within L p t u c w)
-
-  -- no more rounds are needed than there is room for facts: L a row, less those that t has
-  pub least-reached : (n : ℕ) (t : Table) → Shaped L t → L * rowCount L ≤ facts L t + n → rounds n L p t ≡ leastAbove L p t
-  least-reached n t s h =
-      let u = settle n L p t in
-      let su = settle-shaped n t s in
-      sym (settle-rounds L p n t)
-      ∙ least-only t u s
-      (settle-keeps-shaped (λ v. length v ≡ length t) (λ v sv e. round-length L p fits v (sv .small) ∙ e) n t s refl) (su .small)
-      (settle-keeps-shaped (λ v. Within t v) (λ v sv w r l g. round-keeps L p fits v (sv .small) r l (w r l g)) n t s (λ r l g. g))
-      (still-closed L p fits u su (settled L p fits n t s h))
-      (λ v c w. settle-keeps L p (λ x. Within x v) (λ x g. round-within L p x v c g) n t w)
-
-  pub least-in-room : (t : Table) → Shaped L t → rounds (L * rowCount L - facts L t) L p t ≡ leastAbove L p t
-  least-in-room t s = least-reached (L * rowCount L - facts L t) t s (omega arith)
-
-  -- a closed table is the least one above itself
-  pub least-of-closed : (t : Table) → Shaped L t → Closed L t p → leastAbove L p t ≡ t
-  least-of-closed t s c = sym (least-only t t s refl (s .small) (λ r l h. h) c (λ v cv w. w))

@@ -14,9 +14,6 @@ use Rattle.words.proofs.Bits.{empty-off, on-below, same-labels, subset-count, c
 use Rattle.rows.specs.Row.{rowCount}
 use Rattle.rules.specs.Table.{Table, Has, Within, emptyTable, Small, Shaped, total, facts}
 
-pub within-trans : (t u v : Table) → Within t u → Within u v → Within t v
-within-trans t u v a b r l h = b r l (a r l h)
-
 pub has-label : (L : ℕ) (t : Table) → Small L t → (r l : ℕ) → Has t r l → l < L
 has-label L t s r l h = on-below L (getD t r 0) l (s r) h
 

@@ -1,7 +1,7 @@
 // What grew, for a round: rows, by their sizes, and the callees and objects that are concerned by it.
 ghost use Prim.Native.Nat.{_+_, _≤_, _<_};
 ghost use lib.ListN.{length};
-ghost use Rattle.lent.specs.Table.{wordCount};
+ghost use Rattle.rows.specs.Edition.{wordCount};
 use indexing::notes::CALLEES;
 use indexing::notes::CALLEES_GREW;
 use indexing::notes::FUNCTIONS_GREW;

@@ -1,8 +1,7 @@
 // The next record to use: from the queue, else a reader of a variable that grew, else from the scan of the round.
 ghost use Prim.Native.Nat.{_≤_};
 ghost use lib.ListN.{length};
-ghost use Rattle.rows.specs.Edition.{labels};
-ghost use Rattle.lent.specs.Table.{wordCount};
+ghost use Rattle.rows.specs.Edition.{labels, wordCount};
 ghost use Rattle.indexing.specs.Begins.{Begins, Named};
 use crate::readers::is_due;
 use crate::readers::next_reader;
@@ -64,7 +63,7 @@ fn take(low: &[u64; 256], high: &[u64; 256], queue: &[u16; 1024], notes: &mut [u
 
 // ---- the blocks of a round
 
-// The blocks in which a byte of s is read.
+// The blocks in which something is to be looked at for a byte of s.
 fn blocks_of(index: &[u64; 256], s: Set) -> u64 {
     let mut marks: u64 = 0;
     let mut rest = s;
@@ -90,7 +89,7 @@ fn blocks_named(notes: &[u64; 256], names: u64) -> u64 {
     marks
 }
 
-// The bytes that grew in some role.
+// The bytes that grew in some role, objects apart.
 fn bytes_grew(notes: &[u64; 256]) -> Set {
     let values = sets::union(
         true,
@@ -98,8 +97,12 @@ fn bytes_grew(notes: &[u64; 256]) -> Set {
         set_at(notes, CALLEES_GREW),
     );
     let labels = sets::union(true, set_at(notes, SCOPES_GREW), set_at(notes, LABELS_GREW));
-    let objects = sets::union(true, values, set_at(notes, OBJECTS_GREW));
-    sets::union(true, objects, labels)
+    sets::union(true, values, labels)
+}
+
+// Whether every block is worth a look: in the first round, and where the chain of an object grew, since the index has no load under its object.
+fn is_everywhere(notes: &[u64; 256]) -> bool {
+    (notes[EVERY] == 1) | !sets::is_empty(true, set_at(notes, OBJECTS_GREW))
 }
 
 // Marks the blocks worth a look. A prim, which looks under names 1 and 2, is where something is thrown.
@@ -110,7 +113,7 @@ fn mark(index: &[u64; 256], notes: &mut [u64; 256]) {
         blocks_of(index, bytes_grew(notes)),
         blocks_named(notes, names),
     );
-    notes[MARKS] = if notes[EVERY] == 1 {
+    notes[MARKS] = if is_everywhere(notes) {
         0xffffffffffffffff
     } else {
         marks

@@ -1,12 +1,12 @@
-// The readers of the variables that grew: statements that read one or two variables (`followed`). They are used at once, variable by variable, the one that
-// grew last first.
+// The readers of the variables that grew (`indexing::parts::follows`). They are used at once, variable by variable, the one that grew last first.
 ghost use mathlib.Core.List.{List};
 ghost use Prim.Native.Nat.{ℕ, _≤_};
 ghost use lib.ListN.{length};
-ghost use Rattle.lent.specs.Table.{wordCount};
+ghost use Rattle.rows.specs.Edition.{wordCount};
 ghost use Rattle.indexing.specs.Begins.{Begins, Named};
 use indexing::begins::confirmed;
 use indexing::begins::starts;
+use indexing::notes::CALLS;
 use indexing::notes::DUE;
 use indexing::notes::END;
 use indexing::notes::FROM;
@@ -29,6 +29,7 @@ use indexing::notes::place_of;
 use indexing::notes::set_at;
 use indexing::notes::word;
 use indexing::parts::byte;
+use indexing::parts::follows;
 use indexing::parts::one;
 use indexing::seen::news_of;
 use indexing::seen::see;
@@ -116,29 +117,18 @@ pub fn begin_part(
 
 // ---- its readers
 
-// Whether the record at `at` reads variable v and is looked for.
-fn reads_it(file: &[u8], at: usize, v: u8) -> bool {
-    match byte(file, at, 0) {
-        5 => (byte(file, at, 1) == v) & (byte(file, at, 3) != 255),
-        6 => (byte(file, at, 1) == v) | (v == 1),
-        16 | 17 => byte(file, at, 3) == v,
-        18 => (byte(file, at, 2) == v) | (byte(file, at, 4) == v),
-        24 => byte(file, at, 2) == v,
-        _ => false,
-    }
-}
-
 // The next reader of these 64 bytes; END where there is none.
 fn look(file: &[u8], notes: &mut [u64; 256]) -> usize {
     let from = 64 * (number(notes[READ_WORD]) % 512);
     let v = low_byte(number(notes[READ]));
+    let calls = notes[CALLS] == 1;
     let mut rest = notes[READ_BITS];
     while rest != 0 {
         let next = words::next(rest);
         let at = from + next.label;
         let after = next.rest;
         rest = after;
-        if reads_it(file, at, v) {
+        if follows(file, at, calls, v) {
             notes[READ_BITS] = rest;
             return at;
         }

@@ -1,7 +1,7 @@
 // Whether a record is worth a look: whether something that it reads grew, in the role in which it reads it.
 ghost use Prim.Native.Nat.{_+_, _≤_};
 ghost use lib.ListN.{length};
-ghost use Rattle.lent.specs.Table.{wordCount};
+ghost use Rattle.rows.specs.Edition.{wordCount};
 use indexing::notes::CALLEES_GREW;
 use indexing::notes::EVERY;
 use indexing::notes::HANDED_GREW;

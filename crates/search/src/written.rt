@@ -1,7 +1,7 @@
 // What a use wrote: variables that hold something new to their readers, and properties.
 ghost use Prim.Native.Nat.{_≤_};
 ghost use lib.ListN.{length};
-ghost use Rattle.lent.specs.Table.{wordCount};
+ghost use Rattle.rows.specs.Edition.{wordCount};
 use indexing::notes::DUE;
 use indexing::notes::END;
 use indexing::notes::ENDED;

@@ -1,3 +1,2 @@
 -- What solving promises.
 pub mod Solved
-pub mod Iterated

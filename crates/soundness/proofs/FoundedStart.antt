@@ -7,9 +7,9 @@ use native.Mathlib.Omega.{arith}
 use lib.ListN.{length, getD}
 use lib.Dec.{eqb}
 use Rattle.format.specs.Sheet.{typeOf}
-use Rattle.format.specs.Reading.{readFile, Readable}
+use Rattle.format.specs.Reading.{Readable}
 use Rattle.format.proofs.Readable.{readable-ready}
-use Rattle.program.specs.Program.{Program, Guest, programOf}
+use Rattle.program.specs.Program.{Program, Guest, programOf, programIn}
 use Rattle.machine.specs.State.{primitive, object, State, frameIn, objectAt, withValue}
 use Rattle.machine.specs.Property.{prototypeOfType}
 use Rattle.machine.specs.Step.{Move, run}
@@ -111,7 +111,7 @@ module _ (p : Program) (plain : FirstPlain p) where
   start-founded =
       fill-founded [] (fillings p) (unfilled p ls) unfilled-founded (keeps-refl (startObjects p ls)) (fillings-listed firstLabels (fillings p))
 
-first-plain : (L : ℕ) (xs : List ℕ) → 5 ≤ L → Readable L xs → FirstPlain (programOf (readFile L xs))
+first-plain : (L : ℕ) (xs : List ℕ) → 5 ≤ L → Readable L xs → FirstPlain (programIn L xs)
 unfolding programOf
 first-plain L xs h e =
     let labels = readable-ready L xs h e .made .labels in
@@ -123,7 +123,7 @@ first-plain L xs h e =
 
 -- every state that a run of a readable file reaches
 pub always-founded : (L : ℕ) (xs : List ℕ) → 5 ≤ L → Readable L xs → (moves : List Move)
-    → Founded (run (programOf (readFile L xs)) moves (start (programOf (readFile L xs))))
+    → Founded (run (programIn L xs) moves (start (programIn L xs)))
 always-founded L xs h e moves =
-    let p = programOf (readFile L xs) in
+    let p = programIn L xs in
     run-founded p moves (start p) (start-founded p (first-plain L xs h e))

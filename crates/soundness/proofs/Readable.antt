@@ -20,7 +20,7 @@ use Rattle.format.proofs.Later.{declared-below}
 use Rattle.format.proofs.Ready.{Ready}
 use Rattle.format.proofs.Readable.{readable-ready}
 use Rattle.program.specs.Statement as say
-use Rattle.program.specs.Program.{Program, Guest, statements, programOf}
+use Rattle.program.specs.Program.{Program, Guest, statements, programOf, programIn}
 use Rattle.analysis.specs.Rules.{ruleOf, guestChains, rules}
 use Rattle.machine.specs.Property.{isGuest}
 use Rattle.machine.specs.Step.{member}
@@ -125,7 +125,7 @@ module _ (L : ℕ) (s : Sheet) (ps : List (ℕ × Record)) (ready : Ready L s ps
           every-closed L t _ (closed .1 .1) (ruleOf p a)
           (Memᴰ·map (λ r. r .1) {a = (at, ruleOf p a)} (Memᴰ·map (λ z. (z .0, ruleOf p (z .1))) {a = (at, a)} m))
 
-pub readable-setting : (L : ℕ) (xs : List ℕ) → 5 ≤ L → Readable L xs → (t : Table) → Closed L t (rules L (programOf (readFile L xs)))
-    → Setting L t (programOf (readFile L xs))
+pub readable-setting : (L : ℕ) (xs : List ℕ) → 5 ≤ L → Readable L xs → (t : Table) → Closed L t (rules L (programIn L xs))
+    → Setting L t (programIn L xs)
 unfolding programOf
 readable-setting L xs h e t c = setting L (readFile L xs .sheet) (readFile L xs .records) (readable-ready L xs h e) t c

@@ -6,8 +6,8 @@ use mathlib.Core.List.{List, [], _∷_, List·Memᴰ, List·Memᴰ·head, List·
 use Prim.Native.Nat.{ℕ, _≤_}
 use Rattle.rules.specs.Table.{Table, Has}
 use Rattle.rules.specs.Told.{Closed}
-use Rattle.format.specs.Reading.{readFile, Readable}
-use Rattle.program.specs.Program.{Program, programOf}
+use Rattle.format.specs.Reading.{Readable}
+use Rattle.program.specs.Program.{Program, programIn}
 use Rattle.analysis.specs.Rules.{rules}
 use Rattle.machine.specs.State.{Value, primitive, object, Object, labelsAmong, labelsHeld}
 use Rattle.machine.specs.Step.{Move, run}
@@ -38,12 +38,12 @@ held-in-row {p = p} w moves b l m =
     let d = run-described w moves (start p) (start-described w) in
     labels-within (run p moves (start p) .objects) (run p moves (start p) .bags b) (d .bags-allowed b) l m
 
-module _ (L : ℕ) (xs : List ℕ) (five : 5 ≤ L) (readable : Readable L xs) (t : Table) (closed : Closed L t (rules L (programOf (readFile L xs)))) where
+module _ (L : ℕ) (xs : List ℕ) (five : 5 ≤ L) (readable : Readable L xs) (t : Table) (closed : Closed L t (rules L (programIn L xs))) where
   -- every object that the guest holds after a run has its label in row bag of the table
   pub held-within : (moves : List Move) (b l : ℕ)
-      → List·Memᴰ l (labelsHeld (run (programOf (readFile L xs)) moves (start (programOf (readFile L xs)))) b) → Has t b l
+      → List·Memᴰ l (labelsHeld (run (programIn L xs) moves (start (programIn L xs))) b) → Has t b l
   held-within = held-in-row (readable-setting L xs five readable t closed)
 
   -- so no guest ever holds an object of a label that is forbidden to it
-  pub safe : NoneForbidden (programOf (readFile L xs)) t → Confined (programOf (readFile L xs))
+  pub safe : NoneForbidden (programIn L xs) t → Confined (programIn L xs)
   safe none moves g i l m f = none g i l (held-within moves (g .bag) l m) f

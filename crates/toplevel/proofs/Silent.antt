@@ -16,9 +16,9 @@ use Rattle.format.specs.Sheet.{typeOf}
 use Rattle.format.specs.Reading.{Reading, readFile, Readable}
 use Rattle.format.proofs.Readable.{readable-ready}
 use Rattle.program.specs.Statement as say
-use Rattle.program.specs.Program.{Program, hostStatements, programOf}
+use Rattle.program.specs.Program.{Program, hostStatements, programOf, programIn}
 use Rattle.analysis.specs.Verdict.{leastTable}
-use Rattle.verdicts.specs.Verdict.{admitted, judged, programIn, verdictOutcome, verdictTable, verdictWords}
+use Rattle.verdicts.specs.Verdict.{admitted, judged, verdictOutcome, verdictTable, verdictWords}
 use Rattle.verdicts.specs.Check.{cleaned, checked, checkOutcome}
 use Rattle.machine.specs.State.{State}
 use Rattle.machine.specs.Step.{act, step, run}

@@ -13,7 +13,8 @@ use Rattle.format.specs.Fields.{good}
 use Rattle.format.specs.Records.{Record}
 use Rattle.format.specs.Reading.{readFile, Readable, longest, written, sheetAfter, AllWellFormed}
 use Rattle.program.specs.Statement as say
-use Rattle.verdicts.specs.Verdict.{verdictOutcome, verdictTable, verdictWords, programIn}
+use Rattle.program.specs.Program.{programIn}
+use Rattle.verdicts.specs.Verdict.{verdictOutcome, verdictTable, verdictWords}
 use Rattle.verdicts.specs.Check.{checkOutcome}
 use Rattle.machine.specs.State.{State}
 use Rattle.machine.specs.Step.{Choice, Move, act, statementAt, step, run}

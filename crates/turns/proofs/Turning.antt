@@ -1,17 +1,16 @@
 -- What a turn of the search adds is told by the rules of the file. Assumes nothing.
 use mathlib.Core.Path.{_≡_, refl, sym, subst}
 use mathlib.Core.Logic.{inl, inr}
-use mathlib.Core.Bool.{Bool, true, false, not}
+use mathlib.Core.Bool.{Bool}
 use mathlib.Core.List.{List}
-use Prim.Native.Nat.{ℕ, zero, suc, _<_}
-use native.Mathlib.Omega.{arith}
-use lib.ListN.{length, getD, replicate}
+use Prim.Native.Nat.{ℕ, _<_}
+use lib.ListN.{length, getD}
 use Rattle.rows.specs.Edition.{labels}
 use Rattle.rules.specs.Table.{Table}
 use Rattle.rules.specs.Rule.{Rule, every}
 use Rattle.rules.specs.Told.{Told}
 use Rattle.format.specs.Records.{Record}
-use Rattle.program.specs.Program.{Program}
+use Rattle.program.specs.Program.{Program, programIn}
 use Rattle.analysis.specs.Rules.{rules}
 use Rattle.uses.specs.Use.{Since, tells, Reached, start}
 use Rattle.uses.proofs.Use.{reached-for, reached-on, reached-read}
@@ -26,7 +25,7 @@ use Rattle.shared.proofs.Applied.{remembers-on}
 use Rattle.passes.specs.Order.{lineRules, recordRules}
 use Rattle.passes.proofs.Every.{told-append}
 use Rattle.passes.proofs.Whole.{pass-told}
-use Rattle.turns.specs.Steps.{programIn, StepsFor}
+use Rattle.turns.specs.Steps.{StepsFor}
 
 -- the rule of a record is one of the records' rules
 pub record-told : {L : ℕ} {file : List ℕ} {at : ℕ} (p : Program) (t : Table) (r l : ℕ) (w : Walk L file at) (h : at < length file)
@@ -40,30 +39,30 @@ record-told {L} {file} {at} p t r l w h told =
 
 -- it is one of the file's
 statement-told : (wide : Bool) (file : List ℕ) {at : ℕ} (s : Statement) → Walk (labels wide) file at → at < length file
-    → recordRule (programIn wide file) (getD file at 0) (bodyAt file at) ≡ ruleBy (programIn wide file) s → (b : Table) (r l : ℕ)
-    → Told (labels wide) b (ruleBy (programIn wide file) s) r l → Told (labels wide) b (rules (labels wide) (programIn wide file)) r l
+    → recordRule (programIn (labels wide) file) (getD file at 0) (bodyAt file at) ≡ ruleBy (programIn (labels wide) file) s → (b : Table) (r l : ℕ)
+    → Told (labels wide) b (ruleBy (programIn (labels wide) file) s) r l → Told (labels wide) b (rules (labels wide) (programIn (labels wide) file)) r l
 statement-told wide file s w h e b r l g =
-    pass-told (labels wide) file b r l (inr (record-told (programIn wide file) b r l w h (subst (λ (q : Rule). Told (labels wide) b q r l) (sym e) g)))
+    pass-told (labels wide) file b r l (inr (record-told (programIn (labels wide) file) b r l w h (subst (λ (q : Rule). Told (labels wide) b q r l) (sym e) g)))
 
 module _ {wide : Bool} {file t u keeps kept : List ℕ} {grew : Bool} where
   -- a use of what the rules of the file tell
-  steps-of : {T : Table → ℕ → ℕ → Type 0} → ((a : Table) (r l : ℕ) → T a r l → Told (labels wide) a (rules (labels wide) (programIn wide file)) r l)
-      → Applies wide 0 (programIn wide file) T t keeps u kept grew → StepsFor wide file t keeps u kept
+  steps-of : {T : Table → ℕ → ℕ → Type 0} → ((a : Table) (r l : ℕ) → T a r l → Told (labels wide) a (rules (labels wide) (programIn (labels wide) file)) r l)
+      → Applies wide 0 (programIn (labels wide) file) T t keeps u kept grew → StepsFor wide file t keeps u kept
   steps-of f a old since m = record { reached = reached-for (inl refl) (λ b i r l h. f b r l h) (a .uses old since m .only); memory = a .memory old since m }
 
-  pub steps-lines : Applies wide 0 (programIn wide file) (tells wide (lineRules (labels wide) (programIn wide file))) t keeps u kept grew
+  pub steps-lines : Applies wide 0 (programIn (labels wide) file) (tells wide (lineRules (labels wide) (programIn (labels wide) file))) t keeps u kept grew
       → StepsFor wide file t keeps u kept
   steps-lines a = steps-of (λ b r l h. pass-told (labels wide) file b r l (inl h)) a
 
   pub steps-record : {at : ℕ} (s : Statement) → Walk (labels wide) file at → at < length file
-      → recordRule (programIn wide file) (getD file at 0) (bodyAt file at) ≡ ruleBy (programIn wide file) s
-      → Applies wide 0 (programIn wide file) (tells wide (ruleBy (programIn wide file) s)) t keeps u kept grew → StepsFor wide file t keeps u kept
+      → recordRule (programIn (labels wide) file) (getD file at 0) (bodyAt file at) ≡ ruleBy (programIn (labels wide) file) s
+      → Applies wide 0 (programIn (labels wide) file) (tells wide (ruleBy (programIn (labels wide) file) s)) t keeps u kept grew → StepsFor wide file t keeps u kept
   steps-record s w h e a = steps-of (statement-told wide file s w h e) a
 
 -- a part of a use, which leaves the pairs alone
 pub steps-part : {wide : Bool} {file t u keeps : List ℕ} {at : ℕ} (s : Statement) → Walk (labels wide) file at → at < length file
-    → recordRule (programIn wide file) (getD file at 0) (bodyAt file at) ≡ ruleBy (programIn wide file) s
-    → Reached wide 0 (tells wide (ruleBy (programIn wide file) s)) t u → StepsFor wide file t keeps u keeps
+    → recordRule (programIn (labels wide) file) (getD file at 0) (bodyAt file at) ≡ ruleBy (programIn (labels wide) file) s
+    → Reached wide 0 (tells wide (ruleBy (programIn (labels wide) file) s)) t u → StepsFor wide file t keeps u keeps
 steps-part {wide} {file} s w h e reach old since m =
     record {
       reached = reached-for (inl refl) (λ b i r l g. statement-told wide file s w h e b r l g) reach;
@@ -86,13 +85,4 @@ steps-on a b old since m =
 pub steps-forget : {wide : Bool} {file t keeps kept : List ℕ}
     → ((o : ℕ) (p : Program) (old t : List ℕ) → Since wide old t → Remembers wide o p old t keeps → Remembers wide o p old t kept)
     → StepsFor wide file t keeps t kept
-steps-forget {wide} {file} {t} f old since m = record { reached = start; memory = f 0 (programIn wide file) old t since m }
-
-pub never : {A : Type 0} → false ≡ true → A
-never e = let z : _≡_ {A = ℕ} 0 1 = cc in absurd (omega arith)
-
--- an array of zeros
-pub zero-at : (n i : ℕ) → _≡_ {A = ℕ} (getD (replicate n 0) i 0) 0
-zero-at zero i = refl
-zero-at (suc n) zero = refl
-zero-at (suc n) (suc i) = zero-at n i
+steps-forget {wide} {file} {t} f old since m = record { reached = start; memory = f 0 (programIn (labels wide) file) old t since m }

@@ -3,21 +3,16 @@ use mathlib.Core.List.{List}
 use mathlib.Core.Bool.{Bool}
 use Prim.Native.Nat.{ℕ}
 use Rattle.rows.specs.Edition.{labels}
-use Rattle.format.specs.Reading.{readFile}
-use Rattle.program.specs.Program.{Program, programOf}
+use Rattle.program.specs.Program.{programIn}
 use Rattle.analysis.specs.Rules.{rules}
 use Rattle.uses.specs.Use.{Since, tells, Reached}
 use Rattle.kept.specs.Promise.{Remembers}
 
--- the program of the file
-abbrev pub programIn : Bool → List ℕ → Program
-programIn wide file = programOf (readFile (labels wide) file)
-
 pub record Steps (wide : Bool) (file old t u kept : List ℕ) : Type 0 where
-  pub reached : Reached wide 0 (tells wide (rules (labels wide) (programIn wide file))) t u
-  pub memory : Remembers wide 0 (programIn wide file) old u kept
+  pub reached : Reached wide 0 (tells wide (rules (labels wide) (programIn (labels wide) file))) t u
+  pub memory : Remembers wide 0 (programIn (labels wide) file) old u kept
 
 -- counted from whatever words the pairs are good for
 abbrev pub StepsFor : Bool → List ℕ → List ℕ → List ℕ → List ℕ → List ℕ → Type 0
 StepsFor wide file t keeps u kept =
-    (old : List ℕ) → Since wide old t → Remembers wide 0 (programIn wide file) old t keeps → Steps wide file old t u kept
+    (old : List ℕ) → Since wide old t → Remembers wide 0 (programIn (labels wide) file) old t keeps → Steps wide file old t u kept

@@ -8,7 +8,8 @@ ghost use Rattle.format.specs.Reading.{Readable};
 ghost use Rattle.uses.specs.Use.{Lent};
 ghost use Rattle.host.specs.Lays.{arrays};
 ghost use Rattle.passes.specs.Order.{Known};
-ghost use Rattle.turns.specs.Steps.{programIn, StepsFor};
+ghost use Rattle.program.specs.Program.{programIn};
+ghost use Rattle.turns.specs.Steps.{StepsFor};
 use crate::single::forget_if;
 use crate::single::grown_at;
 use crate::single::use_at;
@@ -17,12 +18,16 @@ use crate::single::whole_at;
 
 mod single;
 
+// The first search is after so many passes: an ordinary file is settled before.
+const FIRST: u8 = 4;
+
 // The most turns without a whole pass: a bound by which the loop is seen to end. A search that is cut off costs time and no answer, since a pass follows.
 const MOST: usize = 100000000;
 
-// The search: from what grew in the passes before until nothing that it finds grows any more. Nothing is done unless `go`.
+// The search after so many passes: from what grew in them until nothing that it finds grows any more, or until it takes too many rounds. A later one, of a file that
+// needed more than the first, looks for calls by variable too.
 pub fn search_on(
-    go: bool,
+    passes: u8,
     t: &mut [u64],
     wide: bool,
     file: &[u8],
@@ -36,11 +41,12 @@ pub fn search_on(
     keeps: &mut [u64; 256],
 )
     requires { ⌜ Lent wide 0 (length (now t)) × Readable (labels wide) (now file) ⌝ }
-    ensures { λ _. ⌜ (Known wide (programIn wide (now (file .entry))) (now (host .entry)) (now (types .entry)) (now (formals .entry)) (arrays (now (first .entry)) (now (second .entry)) (now (third .entry)) (now (fourth .entry))) → StepsFor wide (now (file .entry)) (now (t .entry)) (now (keeps .entry)) (now (t .exit)) (now (keeps .exit))) ⌝ }
+    ensures { λ _. ⌜ (Known wide (programIn (labels wide) (now (file .entry))) (now (host .entry)) (now (types .entry)) (now (formals .entry)) (arrays (now (first .entry)) (now (second .entry)) (now (third .entry)) (now (fourth .entry))) → StepsFor wide (now (file .entry)) (now (t .entry)) (now (keeps .entry)) (now (t .exit)) (now (keeps .exit))) ⌝ }
 {
-    if !go {
+    if passes < FIRST {
         return;
     }
+    let calls = FIRST < passes;
     let mut low = [0u64; 256];
     let mut high = [0u64; 256];
     let mut index = [0u64; 256];
@@ -63,6 +69,7 @@ pub fn search_on(
     let mut stored = [0u64; 256];
     let mut seers = [0u64; 256];
     indexing::index::index_readers(
+        calls,
         wide,
         file,
         &mut readers_first,
@@ -73,6 +80,7 @@ pub fn search_on(
         &mut odd,
     );
     indexing::index::index_file(
+        calls,
         wide,
         file,
         host,

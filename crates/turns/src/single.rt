@@ -1,17 +1,17 @@
 // One use of what the search named, as a whole or in part.
 ghost use mathlib.Core.Path.{_≡_};
 ghost use mathlib.Core.List.{List};
-ghost use Prim.Native.Nat.{ℕ, _<_};
+ghost use Prim.Native.Nat.{ℕ};
 ghost use lib.ListN.{length};
 ghost use Rattle.rows.specs.Edition.{labels};
 ghost use Rattle.format.specs.Reading.{Readable};
-ghost use Rattle.program.specs.Program.{Program};
+ghost use Rattle.program.specs.Program.{Program, programIn};
 ghost use Rattle.uses.specs.Use.{Lent, Since};
 ghost use Rattle.kept.specs.Promise.{Remembers};
 ghost use Rattle.host.specs.Lays.{Lays, arrays};
 ghost use Rattle.passes.specs.Order.{Known};
 ghost use Rattle.indexing.specs.Begins.{Named};
-ghost use Rattle.turns.specs.Steps.{programIn, StepsFor};
+ghost use Rattle.turns.specs.Steps.{StepsFor};
 use indexing::notes::END;
 use indexing::notes::LINES;
 use search::readers::Part;
@@ -41,7 +41,7 @@ pub fn use_at(
     at: usize,
 ) -> bool
     requires { ⌜ Lent wide 0 (length (now t)) × Readable (labels wide) (now file) × Named (labels wide) (now file) at ⌝ }
-    ensures { λ _. ⌜ (Known wide (programIn wide (now (file .entry))) (now (host .entry)) (now (types .entry)) (now (formals .entry)) (arrays (now (first .entry)) (now (second .entry)) (now (third .entry)) (now (fourth .entry))) → StepsFor wide (now (file .entry)) (now (t .entry)) (now (keeps .entry)) (now (t .exit)) (now (keeps .exit))) ⌝ }
+    ensures { λ _. ⌜ (Known wide (programIn (labels wide) (now (file .entry))) (now (host .entry)) (now (types .entry)) (now (formals .entry)) (arrays (now (first .entry)) (now (second .entry)) (now (third .entry)) (now (fourth .entry))) → StepsFor wide (now (file .entry)) (now (t .entry)) (now (keeps .entry)) (now (t .exit)) (now (keeps .exit))) ⌝ }
     ensures { λ _. ⌜ length (now (t .exit)) ≡ length (now (t .entry)) ⌝ }
 {
     if at == LINES {
@@ -59,7 +59,7 @@ pub fn use_at(
             keeps,
         );
     }
-    if at < 32768 {
+    if at < layout::LONGEST {
         let s = records::statement_at(wide, file, at);
         return apply::apply(
             t,
@@ -88,13 +88,13 @@ pub fn use_part(
     at: usize,
 ) -> bool
     requires { ⌜ Lent wide 0 (length (now t)) × Readable (labels wide) (now file) × Named (labels wide) (now file) at ⌝ }
-    ensures { λ _. ⌜ ((keeps : List ℕ) → Lays wide (programIn wide (now (file .entry))) (now (host .entry)) → StepsFor wide (now (file .entry)) (now (t .entry)) keeps (now (t .exit)) keeps) ⌝ }
+    ensures { λ _. ⌜ ((keeps : List ℕ) → Lays wide (programIn (labels wide) (now (file .entry))) (now (host .entry)) → StepsFor wide (now (file .entry)) (now (t .entry)) keeps (now (t .exit)) keeps) ⌝ }
     ensures { λ _. ⌜ length (now (t .exit)) ≡ length (now (t .entry)) ⌝ }
 {
     if !part.known {
         return false;
     }
-    if at < 32768 {
+    if at < layout::LONGEST {
         let s = records::statement_at(wide, file, at);
         return apply::apply_part(t, wide, host, s, part.labels);
     }

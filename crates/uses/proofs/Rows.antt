@@ -7,10 +7,10 @@ use Prim.Native.Nat.{ℕ, _+_, _*_, _^_, _≤_, _<_}
 use native.Mathlib.Omega.{arith}
 use lib.ListN.{getD}
 use Rattle.words.proofs.Bits.{on-single, single-only}
-use Rattle.rows.specs.Edition.{labels, words}
+use Rattle.rows.specs.Edition.{labels, words, wordCount}
 use Rattle.rows.specs.Row.{rowCount}
 use Rattle.rows.specs.Run.{number}
-use Rattle.lent.specs.Table.{wordCount, tableAt, place}
+use Rattle.lent.specs.Table.{tableAt, place}
 use Rattle.lent.specs.Stored.{Joined}
 use Rattle.rows.proofs.Run.{view-row}
 use Rattle.uses.specs.Use.{Lent, giving, including, Used}

@@ -10,14 +10,14 @@ use native.Mathlib.Omega.{arith}
 use lib.ListN.{length, getD}
 use Rattle.words.specs.Words.{bit, Taken}
 use Rattle.words.proofs.Bits.{On, empty-off}
-use Rattle.rows.specs.Edition.{labels, words}
+use Rattle.rows.specs.Edition.{labels, words, wordCount}
 use Rattle.rows.specs.Row.{rowCount}
 use Rattle.rules.specs.Table.{Table, Has, Within}
 use Rattle.rules.specs.Rule.{Rule}
 use Rattle.rules.specs.Told.{Told, Closed}
 use Rattle.rules.proofs.Join.{join-keeps, join-tells, has-join}
 use Rattle.rules.proofs.Told.{told-within, told-closed}
-use Rattle.lent.specs.Table.{wordCount, tableAt}
+use Rattle.lent.specs.Table.{tableAt}
 use Rattle.lent.specs.Stored.{Joined}
 use Rattle.rows.proofs.Run.{view-length, view-same}
 use Rattle.uses.specs.Use.{Apart, tableOf, Since, tells, Reached, start, adds, Says, Used}

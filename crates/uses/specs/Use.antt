@@ -7,12 +7,12 @@ use mathlib.Core.Bool.{Bool, true, false}
 use mathlib.Core.List.{List}
 use Prim.Native.Nat.{ℕ, _+_, _≤_, _<_}
 use Rattle.words.specs.Words.{bit}
-use Rattle.rows.specs.Edition.{labels, words}
+use Rattle.rows.specs.Edition.{labels, words, wordCount}
 use Rattle.rows.specs.Row.{rowCount}
 use Rattle.rules.specs.Table.{Table, Has, Within}
 use Rattle.rules.specs.Rule.{Rule}
 use Rattle.rules.specs.Told.{Told}
-use Rattle.lent.specs.Table.{wordCount, tableAt}
+use Rattle.lent.specs.Table.{tableAt}
 use Rattle.lent.specs.Stored.{Joined}
 
 -- the two places that a table can have beside the table at 0: the same, or behind it

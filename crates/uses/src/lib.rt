@@ -2,10 +2,9 @@
 ghost use mathlib.Core.Path.{_≡_};
 ghost use Prim.Native.Nat.{_+_, _^_, _≤_, _<_};
 ghost use lib.ListN.{length, getD};
-ghost use Rattle.rows.specs.Edition.{labels};
+ghost use Rattle.rows.specs.Edition.{labels, wordCount};
 ghost use Rattle.rows.specs.Row.{rowCount};
 ghost use Rattle.sets.specs.Value.{value};
-ghost use Rattle.lent.specs.Table.{wordCount};
 ghost use Rattle.uses.specs.Use.{Lent, tableOf, giving, including, Used};
 ghost use Rattle.uses.specs.Gather.{rowFrom, underNames, Gathered, Added};
 

@@ -18,7 +18,8 @@ use Rattle.analysis.specs.Rules.{rules}
 use Rattle.analysis.specs.Verdict.{leastTable}
 use Rattle.analysis.proofs.Proper.{Proper, readable-proper}
 use Rattle.analysis.proofs.Least.{table-within, table-length, table-shaped, table-closed, table-declared, table-positive, table-row}
-use Rattle.verdicts.specs.Verdict.{forbiddenHeld, programIn, judged, verdictOutcome, verdictTable, Leaks, Confined}
+use Rattle.program.specs.Program.{programIn}
+use Rattle.verdicts.specs.Verdict.{forbiddenHeld, judged, verdictOutcome, verdictTable, Leaks, Confined}
 use Rattle.verdicts.specs.Check.{cleaned, Accepts}
 use Rattle.verdicts.proofs.Judged.{clear-confined, held-leaks, confined-clear, leaks-held}
 use Rattle.verdicts.proofs.Cleaned.{cleaned-has, has-cleaned}

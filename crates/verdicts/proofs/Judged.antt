@@ -12,10 +12,10 @@ use Rattle.words.proofs.Laws.{Lowest, lowest}
 use Rattle.answer.specs.Outcome.{confined, leaks}
 use Rattle.rules.specs.Table.{Table, facts}
 use Rattle.format.specs.Sheet.{Sheet}
-use Rattle.program.specs.Program.{Program, Guest, guestThree, guestsOf, programOf}
+use Rattle.program.specs.Program.{Program, Guest, guestThree, guestsOf, programOf, programIn}
 use Rattle.analysis.specs.Verdict.{leastTable, heldForbidden}
 use Rattle.analysis.proofs.Held.{held-on, held-below}
-use Rattle.verdicts.specs.Verdict.{forbiddenHeld, holder, judged, programIn, Leaks, Confined}
+use Rattle.verdicts.specs.Verdict.{forbiddenHeld, holder, judged, Leaks, Confined}
 use Rattle.verdicts.specs.Lists.{ForbiddenHeld, LowestForbidden}
 
 -- ---- the two outcomes of a program

@@ -14,11 +14,11 @@ use Rattle.rules.specs.Table.{Table}
 use Rattle.format.specs.Sheet.{Sheet}
 use Rattle.format.specs.Reading.{readFile, Readable}
 use Rattle.format.proofs.Readable.{readable-ready}
-use Rattle.program.specs.Program.{programOf}
+use Rattle.program.specs.Program.{programOf, programIn}
 use Rattle.analysis.specs.Verdict.{leastTable}
 use Rattle.analysis.proofs.Proper.{readable-proper}
 use Rattle.analysis.proofs.Least.{table-length}
-use Rattle.verdicts.specs.Verdict.{forbiddenHeld, holder, judged, programIn, verdictOutcome, verdictTable}
+use Rattle.verdicts.specs.Verdict.{forbiddenHeld, holder, judged, verdictOutcome, verdictTable}
 use Rattle.verdicts.specs.Lists.{LowestForbidden}
 use Rattle.verdicts.proofs.Judged.{clear-confined, held-leaks, guest-three, lowest-forbidden}
 use Rattle.verdicts.proofs.Lists.{verdict-refuses, listed-refused, not-refused}

@@ -21,11 +21,11 @@ use Rattle.format.proofs.Readable.{readable-ready}
 use Rattle.format.proofs.File.{file-refusal-small}
 use Rattle.format.proofs.Missing.{readable-iff}
 use Rattle.format.proofs.Refusals.{bad-file-iff}
-use Rattle.program.specs.Program.{programOf}
+use Rattle.program.specs.Program.{programOf, programIn}
 use Rattle.analysis.specs.Rules.{rules}
 use Rattle.analysis.proofs.Proper.{Proper, readable-proper}
 use Rattle.analysis.proofs.Naming.{told-in-rows}
-use Rattle.verdicts.specs.Verdict.{admitted, forbiddenHeld, judged, programIn, verdictOutcome, Leaks, Confined, Refused}
+use Rattle.verdicts.specs.Verdict.{admitted, forbiddenHeld, judged, verdictOutcome, Leaks, Confined, Refused}
 use Rattle.verdicts.specs.Check.{cleaned, Lacks, checked, checkOutcome, Accepts, Holds}
 use Rattle.verdicts.specs.Lists.{VerdictRefuses, table-short, file-bad, NoneLacks, ForbiddenHeld, LowestForbidden, CheckRefuses, as-the-verdict, row-lacks, CheckHolds, Acceptable}
 use Rattle.verdicts.proofs.Cleaned.{cleaned-small}

@@ -19,10 +19,10 @@ use Rattle.rules.specs.Gap.{gap}
 use Rattle.rules.proofs.Table.{facts-room}
 use Rattle.format.specs.Reading.{readFile, longest}
 use Rattle.format.proofs.File.{file-refusal-small, file-position-within}
-use Rattle.program.specs.Program.{Program}
+use Rattle.program.specs.Program.{Program, programIn}
 use Rattle.analysis.specs.Rules.{rules}
 use Rattle.analysis.specs.Verdict.{leastTable}
-use Rattle.verdicts.specs.Verdict.{admitted, forbiddenHeld, holder, judged, programIn, verdictOutcome}
+use Rattle.verdicts.specs.Verdict.{admitted, forbiddenHeld, holder, judged, verdictOutcome}
 use Rattle.verdicts.specs.Check.{cleaned, checked, checkOutcome}
 use Rattle.verdicts.proofs.Judged.{guest-three}
 

@@ -19,7 +19,8 @@ use Rattle.format.specs.Reading.{readFile, Readable}
 use Rattle.analysis.specs.Verdict.{leastTable}
 use Rattle.analysis.proofs.Proper.{readable-proper}
 use Rattle.analysis.proofs.Least.{table-length, table-shaped}
-use Rattle.verdicts.specs.Verdict.{programIn, verdictTable, verdictWords}
+use Rattle.program.specs.Program.{programIn}
+use Rattle.verdicts.specs.Verdict.{verdictTable, verdictWords}
 use Rattle.verdicts.proofs.Demand.{table-left}
 use Rattle.verdicts.proofs.Left.{length-left}
 

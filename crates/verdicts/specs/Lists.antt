@@ -10,7 +10,7 @@ use Rattle.rules.specs.Table.{Table, Has}
 use Rattle.format.specs.Sheet.{Sheet}
 use Rattle.format.specs.Reading.{Readable}
 use Rattle.format.specs.Refusals.{BadFile}
-use Rattle.verdicts.specs.Verdict.{programIn}
+use Rattle.program.specs.Program.{programIn}
 use Rattle.verdicts.specs.Check.{Lacks}
 
 -- the verdict, lent a table of so many rows, refuses the file with n at position `at`: "8 (position 0) if the lent table has fewer than 2,432

@@ -42,10 +42,6 @@ judged L p =
     let count = facts L t in
     cond (eqb w 0) (confined count) (leaks (trailingZeros L w) (holder (p .guests)) count)
 
--- what the file says to the rules
-abbrev pub programIn : ℕ → List ℕ → Program
-programIn L xs = programOf (readFile L xs)
-
 -- what the verdict says of a file, lent a table of so many rows
 unfoldable pub verdictOutcome : ℕ → ℕ → List ℕ → Outcome
 unfolding readFile programOf judged

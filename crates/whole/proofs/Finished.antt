@@ -1,6 +1,6 @@
 -- What closes the verdict: once a pass in place adds nothing, the table is the least one above that at the start; and a pass that adds something adds to the
 -- number of facts, which is bounded. Assumes nothing.
-use mathlib.Core.Path.{_≡_, refl, sym, ap, _∙_, subst}
+use mathlib.Core.Path.{_≡_, refl, sym, _∙_, subst}
 use mathlib.Core.Bool.{Bool, true, false}
 use mathlib.Core.List.{List}
 use Prim.Native.Nat.{ℕ, zero, suc, _+_, _*_, _/_, _^_, _≤_, _<_}
@@ -15,11 +15,11 @@ use Rattle.words.proofs.Laws.{bit-shifted, lowest}
 use Rattle.words.proofs.Bits.{On}
 use Rattle.rows.specs.Edition.{labels}
 use Rattle.rows.specs.Row.{rowCount}
-use Rattle.rules.specs.Table.{Table, Has, Within, Small, emptyTable, facts}
+use Rattle.rules.specs.Table.{Table, Has, Within, Small, facts}
 use Rattle.rules.specs.Rule.{Rule}
 use Rattle.rules.specs.Told.{Closed, Fits}
 use Rattle.rules.specs.Round.{join, leastAbove}
-use Rattle.rules.proofs.Table.{empty-shaped, facts-room, facts-within, facts-more}
+use Rattle.rules.proofs.Table.{facts-room, facts-within, facts-more}
 use Rattle.rules.proofs.Told.{told-label}
 use Rattle.rules.proofs.Join.{join-zero, join-small}
 use Rattle.rules.proofs.Least.{least-only}
@@ -78,12 +78,6 @@ reached-least {wide} p f {t} {u} s w closed =
 pub finished : {wide : Bool} (p : Rule) → Fits (labels wide) p → {t u v : List ℕ} → Small (labels wide) (tableOf wide t)
     → Reached wide 0 (tells wide p) t u → Used wide 0 (tells wide p) u u v false → tableOf wide v ≡ leastAbove (labels wide) p (tableOf wide t)
 finished p f s w last = reached-least p f s (reached-on w (last .only)) (used-closed p last)
-
--- from a table without facts
-pub finished-empty : {wide : Bool} (p : Rule) → Fits (labels wide) p → {t u v : List ℕ} → tableOf wide t ≡ emptyTable (labels wide)
-    → Reached wide 0 (tells wide p) t u → Used wide 0 (tells wide p) u u v false → tableOf wide v ≡ leastAbove (labels wide) p (emptyTable (labels wide))
-finished-empty {wide} p f e w last =
-    finished p f (subst (Small (labels wide)) (sym e) (empty-shaped (labels wide) .small)) w last ∙ ap (leastAbove (labels wide) p) e
 
 -- ---- the number of facts
 

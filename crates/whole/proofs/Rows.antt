@@ -8,11 +8,11 @@ use native.Mathlib.Nat.{mul-le-mul-left}
 use native.Mathlib.Omega.{arith}
 use lib.ListN.{length, getD, take, drop, length-drop}
 use lib.Seq.{ext-getD, getD-take, getD-drop, take-at, drop-at}
-use Rattle.rows.specs.Edition.{labels, words}
+use Rattle.rows.specs.Edition.{labels, words, wordCount}
 use Rattle.rows.specs.Row.{rowCount}
 use Rattle.rows.specs.Run.{view, roomFor, rowsOf}
 use Rattle.rows.proofs.Run.{view-length, view-add, view-same, room-less, room-enough}
-use Rattle.lent.specs.Table.{wordCount, tableAt}
+use Rattle.lent.specs.Table.{tableAt}
 
 -- ---- rows of k words, the first a of them a table
 

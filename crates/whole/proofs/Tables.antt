@@ -8,11 +8,11 @@ use native.Mathlib.Omega.{arith}
 use lib.ListN.{length, getD, set, replicate, length-set, List·getD-eq-default}
 use lib.Seq.{getD-set-same, getD-set-other}
 use lib.Pow.{pow-pos}
-use Rattle.rows.specs.Edition.{labels, words}
+use Rattle.rows.specs.Edition.{labels, words, wordCount}
 use Rattle.rows.specs.Row.{rowCount}
 use Rattle.rules.specs.Table.{Small, Shaped}
 use Rattle.rows.specs.Run.{Words, number, view}
-use Rattle.lent.specs.Table.{wordCount, tableAt}
+use Rattle.lent.specs.Table.{tableAt}
 use Rattle.rows.proofs.Run.{number-lt, view-length, view-row}
 use Rattle.whole.specs.Cleared.{Cleared}
 

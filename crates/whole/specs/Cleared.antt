@@ -4,9 +4,9 @@ use mathlib.Core.Bool.{Bool}
 use mathlib.Core.List.{List}
 use Prim.Native.Nat.{ℕ, _≤_}
 use lib.ListN.{length, getD}
-use Rattle.rows.specs.Edition.{labels}
+use Rattle.rows.specs.Edition.{labels, wordCount}
 use Rattle.rules.specs.Table.{emptyTable}
-use Rattle.lent.specs.Table.{wordCount, tableAt}
+use Rattle.lent.specs.Table.{tableAt}
 
 -- the table at 0 of u has no fact, and the words beyond it are those of t
 pub record Cleared (wide : Bool) (t u : List ℕ) : Type 0 where

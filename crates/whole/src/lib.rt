@@ -3,10 +3,10 @@ ghost use mathlib.Core.Path.{_≡_};
 ghost use Prim.Native.Nat.{_≤_};
 ghost use lib.Bits.{bitAnd};
 ghost use lib.ListN.{length, getD};
-ghost use Rattle.rows.specs.Edition.{labels};
+ghost use Rattle.rows.specs.Edition.{labels, wordCount};
 ghost use Rattle.rules.specs.Table.{facts};
 ghost use Rattle.sets.specs.Value.{value};
-ghost use Rattle.lent.specs.Table.{wordCount, tableAt};
+ghost use Rattle.lent.specs.Table.{tableAt};
 ghost use Rattle.whole.specs.Cleared.{Cleared};
 use sets::Set;
 

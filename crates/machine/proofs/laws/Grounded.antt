@@ -12,7 +12,6 @@ use Rattle.format.proofs.Tests.{and-second}
 use Rattle.program.specs.Statement as say
 use Rattle.program.specs.Program.{Program, Guest, statements}
 use Rattle.machine.specs.State.{Frame, State, noFrame, frameIn, frameAt, setFrame, withVariable, withThrown}
-use Rattle.machine.specs.Variable.{write}
 use Rattle.machine.specs.Call.{frameOf}
 use Rattle.machine.specs.Step.{Choice, Move, act, perform, statementAt, makesSense, step, run}
 use Rattle.machine.specs.Start.{topFrame, Filling, property, held, nothing, guestFrames, startLabels, unfilled, fillings, fill, start}

@@ -9,10 +9,10 @@ use lib.ListN.{length, getD, set, length-set, length-append, List·getD-append}
 use lib.Seq.{getD-set-same, getD-set-other}
 use lib.Dec.{eqb}
 use Rattle.program.specs.Program.{Program, thisOf, formalsOf}
-use Rattle.machine.specs.State.{Value, object, Object, Frame, State, noObject, noFrame, objectAt, frameAt, withObject, withFrame, setObject, setFrame, withBagged, withValue, withVariable, withThrown}
+use Rattle.machine.specs.State.{Value, Object, Frame, State, noObject, noFrame, objectAt, frameAt, withObject, withFrame, setObject, setFrame, withBagged, withValue, withVariable, withThrown}
 use Rattle.machine.specs.Variable.{write, writeAll}
 use Rattle.machine.specs.Call.{frameOf, enter}
-use Rattle.machine.specs.Step.{Move, step, run}
+use Rattle.machine.specs.Step.{Move, run}
 use Rattle.machine.specs.Laws.{TakesNothingBack}
 use Rattle.machine.specs.Grown.{SameObject, SameFrame, Grown}
 use Rattle.machine.proofs.laws.Changes.{Kept, kept-write, kept-write-all, kept-step, kept-run}

@@ -5,11 +5,10 @@ use native.Mathlib.Omega.{arith}
 use lib.Count.{trailingZeros}
 use lib.ListN.{length}
 use borrow.Author.Tests.{eqb-true}
-use Rattle.rows.specs.Edition.{labels}
+use Rattle.rows.specs.Edition.{labels, wordCount}
 use Rattle.format.specs.Sheet.{Sheet}
 use Rattle.format.specs.Reading.{readFile}
 use Rattle.answer.specs.Outcome.{refused, holds}
-use Rattle.lent.specs.Table.{wordCount}
 use Rattle.operations.proofs.Laws.{arrays-read, held-in, some-held, not-none, check-short, check-refused, check-gap, check-clear, check-held}
 use borrow.Author.Needs.{needs}
 use Rattle.operations.proofs.examine.Statement.{statement}

@@ -3,11 +3,10 @@ use mathlib.Core.Path.{_≡_, sym, ap, ap₂, _∙_}
 use Prim.Native.Nat.{_<_, _≤_}
 use native.Mathlib.Omega.{arith}
 use lib.ListN.{length}
-use Rattle.rows.specs.Edition.{labels}
+use Rattle.rows.specs.Edition.{labels, wordCount}
 use Rattle.format.specs.Sheet.{Sheet}
 use Rattle.format.specs.Reading.{readFile}
 use Rattle.answer.specs.Outcome.{refused}
-use Rattle.lent.specs.Table.{wordCount}
 use Rattle.operations.specs.Judgment.{judgment}
 use Rattle.operations.proofs.Laws.{arrays-read, held-in, short-outcome, short-words, refused-outcome, refused-words, judged-outcome, left-words}
 use borrow.Author.Needs.{needs}

@@ -8,17 +8,17 @@ use Rattle.uses.proofs.Use.{reached-length, reached-behind}
 use Rattle.solver.proofs.solve.Statement.{statement}
 use Rattle.solver.proofs.solve.Tie as tie
 
-iterate-requires : tie.Need-iterate-requires
-iterate-requires c κs =
+settle-requires : tie.Need-settle-requires
+settle-requires c κs =
     let start = c .before .before .before .before .before .before .before in
     let cleared = c .before .before .before .clear .ensures in
-    (record { room = rw (cleared .same-length) (omega (arith, start .pre .0)); apart = inl refl }, start .pre .1, start .pre .2, λ e. cleared .none)
+    (record { room = rw (cleared .same-length) (omega (arith, start .pre .0)); apart = inl refl }, start .pre .1, start .pre .2, cleared .none)
 
 returns : tie.Need-returns
 unfolding leastTable
 returns c =
     let cleared = c .before .before .before .before .before .before .clear .ensures in
-    let settled = c .before .before .iterate .ensures .settled refl in
+    let settled = c .before .before .settle .ensures in
     record {
       same-length = reached-length (settled .reached) ∙ cleared .same-length;
       least = settled .least;
@@ -26,4 +26,4 @@ returns c =
     }
 
 pub solve-spec : {M : Type 1} → statement M
-solve-spec = tie.close (tie.spec (λ c κs. search needs) iterate-requires (λ c. search needs) returns)
+solve-spec = tie.close (tie.spec (λ c κs. search needs) settle-requires (λ c. search needs) returns)

@@ -2,27 +2,29 @@
 use borrow.Author.Needs.{needs}
 use mathlib.Core.Path.{_≡_, refl, _∙_}
 use mathlib.Core.Bool.{true}
+use mathlib.Core.List.{[]}
 use native.Mathlib.Omega.{arith}
 use Prim.Native.Nat.{_-_, _≤_, _<_}
 use lib.ListN.{length}
-use Rattle.rows.specs.Edition.{labels}
+use Rattle.rows.specs.Edition.{labels, wordCount}
+use Rattle.format.proofs.Arrays.{padded}
 use Rattle.format.proofs.File.{readable-read}
-use Rattle.lent.specs.Table.{wordCount}
 use Rattle.uses.proofs.Rows.{read-room}
 use Rattle.host.specs.Lays.{arrays}
 use Rattle.passes.specs.Order.{Known}
-use Rattle.turns.specs.Steps.{programIn, StepsFor}
-use Rattle.turns.proofs.Turning.{steps-none, steps-on, steps-forget, zero-at}
+use Rattle.program.specs.Program.{programIn}
+use Rattle.turns.specs.Steps.{StepsFor}
+use Rattle.turns.proofs.Turning.{steps-none, steps-on, steps-forget}
 use Rattle.turns.proofs.search_on.Statement.{statement}
 use Rattle.turns.proofs.search_on.Tie as tie
 
 abbrev Inv-loop : tie.InvT-loop
-Inv-loop go t₀ wide file host types formals first second third fourth keeps₀ low high index notes₀ links-low₀ links-high₀ queue₀ recent₀ sizes₀ readers-first readers-second readers-third readers-fourth even odd seen-first₀ seen-second₀ seen-third₀ seen-fourth₀ stored₀ seers₀ on₀ turns₀ t keeps notes links-low links-high queue recent sizes seen-first seen-second seen-third seen-fourth stored seers on turns =
+Inv-loop passes t₀ wide file host types formals first second third fourth keeps₀ calls low high index notes₀ links-low₀ links-high₀ queue₀ recent₀ sizes₀ readers-first readers-second readers-third readers-fourth even odd seen-first₀ seen-second₀ seen-third₀ seen-fourth₀ stored₀ seers₀ on₀ turns₀ t keeps notes links-low links-high queue recent sizes seen-first seen-second seen-third seen-fourth stored seers on turns =
     (length t ≡ length t₀) × (on ≡ true → turns < 100000000)
-    × (Known wide (programIn wide file) host types formals (arrays first second third fourth) → StepsFor wide file t₀ keeps₀ t keeps)
+    × (Known wide (programIn (labels wide) file) host types formals (arrays first second third fourth) → StepsFor wide file t₀ keeps₀ t keeps)
 
 abbrev μ-loop : tie.MeasureT-loop
-μ-loop go t₀ wide file host types formals first second third fourth keeps₀ low high index notes₀ links-low₀ links-high₀ queue₀ recent₀ sizes₀ readers-first readers-second readers-third readers-fourth even odd seen-first₀ seen-second₀ seen-third₀ seen-fourth₀ stored₀ seers₀ on₀ turns₀ t keeps notes links-low links-high queue recent sizes seen-first seen-second seen-third seen-fourth stored seers on turns =
+μ-loop passes t₀ wide file host types formals first second third fourth keeps₀ calls low high index notes₀ links-low₀ links-high₀ queue₀ recent₀ sizes₀ readers-first readers-second readers-third readers-fourth even odd seen-first₀ seen-second₀ seen-third₀ seen-fourth₀ stored₀ seers₀ on₀ turns₀ t keeps notes links-low links-high queue recent sizes seen-first seen-second seen-third seen-fourth stored seers on turns =
     100000000 - turns
 
 -- ---- the places of a turn, from its end back to the start
@@ -66,7 +68,7 @@ index-readers-requires c κs =
 index-file-requires : tie.Need-index-file-requires Inv-loop μ-loop
 index-file-requires c κs =
     let start = c .before .before .before .before .before .before .before .before .before .before .before .before .before .before in
-    (start .pre .1, readable-read (labels (start .args .wide)) (start .args .file .now) (start .pre .1) .short, zero-at 256, zero-at 256)
+    (start .pre .1, readable-read (labels (start .args .wide)) (start .args .file .now) (start .pre .1) .short, padded [] 256 0, padded [] 256 0)
 
 see-all-requires : tie.Need-see-all-requires Inv-loop μ-loop
 see-all-requires c κs =

@@ -12,15 +12,16 @@ use Rattle.indexing.proofs.index.index_file.Statement.{statement}
 use Rattle.indexing.proofs.index.index_file.Tie as tie
 
 abbrev Inv-loop : tie.InvT-loop
-Inv-loop wide file host low₀ high₀ index₀ notes₀ at₀ low high index notes at = Walk (labels wide) file at × Begins (labels wide) file low high
+Inv-loop calls wide file host low₀ high₀ index₀ notes₀ at₀ low high index notes at = Walk (labels wide) file at × Begins (labels wide) file low high
 
 abbrev μ-loop : tie.MeasureT-loop
-μ-loop wide file host low₀ high₀ index₀ notes₀ at₀ low high index notes at = length file - at
+μ-loop calls wide file host low₀ high₀ index₀ notes₀ at₀ low high index notes at = length file - at
 
 loop-holds : tie.Need-loop-holds Inv-loop μ-loop
 loop-holds c =
-    let a = c .before .args in
-    let pre = c .before .pre in
+    let start = c .before .before in
+    let a = start .args in
+    let pre = start .pre in
     let L = labels (a .wide) in
     (walk-first L (a .file .now) (five-labels (a .wide)) (pre .0), (begins-zero L (a .file .now) 0 (a .low .now) (pre .2), begins-zero L (a .file .now) 16384 (a .high .now) (pre .3)))
 
@@ -33,7 +34,7 @@ enter-requires c κs =
 after-requires : tie.Need-after-requires Inv-loop μ-loop
 after-requires c κs =
     let turn = c .before .before .before .before .before in
-    let start = turn .before .before .before in
+    let start = turn .before .before .before .before in
     (turn .before .loop .inv .0, turn .loop-test .taken, start .pre .1)
 
 loop-less : tie.Need-loop-less Inv-loop μ-loop
@@ -48,5 +49,5 @@ loop-again c =
 
 pub index-file-spec : {M : Type 1} → statement M
 index-file-spec =
-    tie.close (tie.spec Inv-loop μ-loop (λ c. search needs) loop-holds enter-requires after-requires loop-less loop-again
+    tie.close (tie.spec Inv-loop μ-loop (λ c. search needs) (λ c. search needs) loop-holds enter-requires after-requires loop-less loop-again
     (λ c. c .before .loop .inv .1))
