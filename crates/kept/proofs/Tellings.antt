@@ -1,13 +1,15 @@
 -- What is told for a set of labels by a pair that is a union: the kept set is part of the set, or its union is held already, or the pair is of no use.
 -- Assumes nothing.
-use mathlib.Core.Path.{_≡_}
+use mathlib.Core.Path.{_≡_, refl, sym, _∙_}
 use mathlib.Core.Logic.{inl, inr, ⊎-elim}
 use mathlib.Core.Bool.{Bool, true}
 use mathlib.Core.List.{List}
 use Prim.Native.Nat.{ℕ, _<_}
-use lib.Bits.{or-zero-l}
+use lib.Bits.{or-zero-l, or-zero-r}
+use lib.Dec.{eqb}
+use borrow.Author.Tests.{eqb-true}
 use Rattle.words.specs.Words.{union, difference}
-use Rattle.words.proofs.Bits.{Subset, on-union, on-left, on-right, on-difference, difference-on}
+use Rattle.words.proofs.Bits.{Subset, empty-off, on-union, on-left, on-right, on-difference, difference-on}
 use Rattle.rules.specs.Table.{Table}
 use Rattle.program.specs.Program.{Program}
 use Rattle.uses.specs.Use.{tableOf}
@@ -23,6 +25,10 @@ pub asks-room : {wide fresh : Bool} {keeps : List ℕ} {pair s have base rest : 
 asks-room (part i a b c) e = i
 asks-room (held i a b c) e = i
 asks-room (all i a b) e = i e
+
+-- what a test for an empty set says
+pub is-none : (v : ℕ) {b : Bool} → b ≡ eqb v 0 → b ≡ true → v ≡ 0
+is-none v e h = eqb-true v 0 (sym e ∙ h)
 
 -- ---- unions put together
 
@@ -86,6 +92,10 @@ union-none : (x : ℕ) → union 0 x ≡ x
 unfolding union
 union-none x = or-zero-l x
 
+union-nothing : (x : ℕ) → union x 0 ≡ x
+unfolding union
+union-nothing x = or-zero-r x
+
 pub tellings : {wide fresh : Bool} {pair s have base rest more r : ℕ} {before after : List ℕ} {slot : Slot} (p : Program) (t : List ℕ) → Union slot
     → (pair < pairCount wide → slotOf pair ≡ slot) → Asks wide before pair s have base rest fresh
     → Gathered (Tells wide p slot) (tableOf wide t) (tableOf wide t) rest more → Answers wide pair s base more r fresh before after
@@ -118,3 +128,11 @@ tellings {wide} {fresh} {pair} {s} {have} {base} {rest} {more} {r} {before} {aft
       ⊎-elim (λ e. rw e remembers) (λ e. never (e .0)) (a .left),
     )
     go (all i e f) g a = whole (rw (a .joined, e, union-none more) (gathered-all then (rw f at g))) a
+
+-- no label is left to be read
+pub tellings-known : {wide fresh : Bool} {pair s have base rest : ℕ} {keeps : List ℕ} {slot : Slot} (p : Program) (t : List ℕ) → Union slot
+    → (pair < pairCount wide → slotOf pair ≡ slot) → Asks wide keeps pair s have base rest fresh → rest ≡ 0
+    → Tellings wide p slot t s have base keeps keeps
+tellings-known {base = base} p t looked here asks e =
+    tellings p t looked here asks (rw e (record { source = λ m h. absurd (empty-off m h); all = λ l m h i. absurd (empty-off l h) }))
+    (record { joined = sym (union-nothing base); left = inl refl })

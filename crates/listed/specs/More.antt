@@ -2,48 +2,48 @@
 use mathlib.Core.Path.{_≡_, refl}
 use mathlib.Core.List.{[], _∷_, map}
 use Rattle.answer.specs.Outcome.{confined, leaks}
-use Rattle.listed.specs.Listed.{verdictOf}
+use Rattle.listed.specs.Listed.{verdictOf, verdictBySixteen, refusedBySixteen, by-sixteen}
 use Rattle.listed.specs.MoreFiles.{primitiveLoad, throwingLogger, returnedToHost, thrownToHost, convertedJournal, constructedJournal, storedByClass, storedElsewhere, arrayPrototype, builtInStore, moreFiles, moreLines}
 
 primitive-load-line : verdictOf primitiveLoad ≡ leaks 5 3 151
-unfolding verdictOf primitiveLoad
-primitive-load-line = refl
+unfolding verdictBySixteen refusedBySixteen primitiveLoad
+primitive-load-line = by-sixteen primitiveLoad refl refl
 
 throwing-logger-line : verdictOf throwingLogger ≡ leaks 5 3 317
-unfolding verdictOf throwingLogger
-throwing-logger-line = refl
+unfolding verdictBySixteen refusedBySixteen throwingLogger
+throwing-logger-line = by-sixteen throwingLogger refl refl
 
 returned-to-host-line : verdictOf returnedToHost ≡ leaks 5 3 153
-unfolding verdictOf returnedToHost
-returned-to-host-line = refl
+unfolding verdictBySixteen refusedBySixteen returnedToHost
+returned-to-host-line = by-sixteen returnedToHost refl refl
 
 thrown-to-host-line : verdictOf thrownToHost ≡ leaks 5 3 155
-unfolding verdictOf thrownToHost
-thrown-to-host-line = refl
+unfolding verdictBySixteen refusedBySixteen thrownToHost
+thrown-to-host-line = by-sixteen thrownToHost refl refl
 
 converted-journal-line : verdictOf convertedJournal ≡ leaks 5 3 319
-unfolding verdictOf convertedJournal
-converted-journal-line = refl
+unfolding verdictBySixteen refusedBySixteen convertedJournal
+converted-journal-line = by-sixteen convertedJournal refl refl
 
 constructed-journal-line : verdictOf constructedJournal ≡ leaks 5 3 161
-unfolding verdictOf constructedJournal
-constructed-journal-line = refl
+unfolding verdictBySixteen refusedBySixteen constructedJournal
+constructed-journal-line = by-sixteen constructedJournal refl refl
 
 stored-by-class-line : verdictOf storedByClass ≡ leaks 5 3 153
-unfolding verdictOf storedByClass
-stored-by-class-line = refl
+unfolding verdictBySixteen refusedBySixteen storedByClass
+stored-by-class-line = by-sixteen storedByClass refl refl
 
 stored-elsewhere-line : verdictOf storedElsewhere ≡ confined 52
-unfolding verdictOf storedElsewhere
-stored-elsewhere-line = refl
+unfolding verdictBySixteen refusedBySixteen storedElsewhere
+stored-elsewhere-line = by-sixteen storedElsewhere refl refl
 
 array-prototype-line : verdictOf arrayPrototype ≡ leaks 5 3 156
-unfolding verdictOf arrayPrototype
-array-prototype-line = refl
+unfolding verdictBySixteen refusedBySixteen arrayPrototype
+array-prototype-line = by-sixteen arrayPrototype refl refl
 
 built-in-store-line : verdictOf builtInStore ≡ confined 56
-unfolding verdictOf builtInStore
-built-in-store-line = refl
+unfolding verdictBySixteen refusedBySixteen builtInStore
+built-in-store-line = by-sixteen builtInStore refl refl
 
 pub more : map verdictOf moreFiles ≡ moreLines
 unfolding moreFiles moreLines

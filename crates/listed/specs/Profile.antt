@@ -2,34 +2,34 @@
 use mathlib.Core.Path.{_≡_, refl}
 use mathlib.Core.List.{[], _∷_}
 use Rattle.answer.specs.Outcome.{confined, leaks, refused}
-use Rattle.listed.specs.Listed.{verdictOf}
+use Rattle.listed.specs.Listed.{verdictOf, verdictBySixteen, refusedBySixteen, by-sixteen}
 use Rattle.listed.specs.ProfileFiles.{only, field, listener, constructor}
 
 -- held to class 1, which has no name, the guest keeps its one object and no property; where name 3 is of class 1, by a record before or behind, its
 -- functions have their prototype property; class 0 has every name
 pub no-name-line : verdictOf (only (9 ∷ 1 ∷ [])) ≡ confined 13
-unfolding verdictOf only
-no-name-line = refl
+unfolding verdictBySixteen refusedBySixteen only
+no-name-line = by-sixteen (only (9 ∷ 1 ∷ [])) refl refl
 
 pub prototype-name-line : verdictOf (only (9 ∷ 1 ∷ 1 ∷ 3 ∷ 3 ∷ [])) ≡ confined 14
-unfolding verdictOf only
-prototype-name-line = refl
+unfolding verdictBySixteen refusedBySixteen only
+prototype-name-line = by-sixteen (only (9 ∷ 1 ∷ 1 ∷ 3 ∷ 3 ∷ [])) refl refl
 
 pub prototype-name-before-line : verdictOf (only (1 ∷ 3 ∷ 3 ∷ 9 ∷ 1 ∷ [])) ≡ confined 14
-unfolding verdictOf only
-prototype-name-before-line = refl
+unfolding verdictBySixteen refusedBySixteen only
+prototype-name-before-line = by-sixteen (only (1 ∷ 3 ∷ 3 ∷ 9 ∷ 1 ∷ [])) refl refl
 
 pub other-name-line : verdictOf (only (9 ∷ 1 ∷ 1 ∷ 4 ∷ 3 ∷ [])) ≡ confined 14
-unfolding verdictOf only
-other-name-line = refl
+unfolding verdictBySixteen refusedBySixteen only
+other-name-line = by-sixteen (only (9 ∷ 1 ∷ 1 ∷ 4 ∷ 3 ∷ [])) refl refl
 
 pub every-name-line : verdictOf (only (9 ∷ 0 ∷ [])) ≡ confined 45
-unfolding verdictOf only
-every-name-line = refl
+unfolding verdictBySixteen refusedBySixteen only
+every-name-line = by-sixteen (only (9 ∷ 0 ∷ [])) refl refl
 
 pub guest-forbidden-line : verdictOf (only (9 ∷ 7 ∷ 3 ∷ 3 ∷ [])) ≡ leaks 3 3 13
-unfolding verdictOf only
-guest-forbidden-line = refl
+unfolding verdictBySixteen refusedBySixteen only
+guest-forbidden-line = by-sixteen (only (9 ∷ 7 ∷ 3 ∷ 3 ∷ [])) refl refl
 
 -- "A c above 7 is refused 5, a repeat 6."
 pub no-class-line : verdictOf (only (9 ∷ 8 ∷ [])) ≡ refused 5 0
@@ -46,52 +46,52 @@ repeated-line = refl
 
 -- the guest cannot load by a name that is not of its class, and there are fewer alarms
 pub field-line : verdictOf (field []) ≡ leaks 5 3 315
-unfolding verdictOf field
-field-line = refl
+unfolding verdictBySixteen refusedBySixteen field
+field-line = by-sixteen (field []) refl refl
 
 pub field-held-line : verdictOf (field (9 ∷ 1 ∷ [])) ≡ confined 23
-unfolding verdictOf field
-field-held-line = refl
+unfolding verdictBySixteen refusedBySixteen field
+field-held-line = by-sixteen (field (9 ∷ 1 ∷ [])) refl refl
 
 pub field-named-line : verdictOf (field (9 ∷ 1 ∷ 1 ∷ 4 ∷ 3 ∷ [])) ≡ leaks 5 3 34
-unfolding verdictOf field
-field-named-line = refl
+unfolding verdictBySixteen refusedBySixteen field
+field-named-line = by-sixteen (field (9 ∷ 1 ∷ 1 ∷ 4 ∷ 3 ∷ [])) refl refl
 
 pub field-other-class-line : verdictOf (field (9 ∷ 2 ∷ 1 ∷ 4 ∷ 3 ∷ [])) ≡ confined 23
-unfolding verdictOf field
-field-other-class-line = refl
+unfolding verdictBySixteen refusedBySixteen field
+field-other-class-line = by-sixteen (field (9 ∷ 2 ∷ 1 ∷ 4 ∷ 3 ∷ [])) refl refl
 
 -- nor can it store by one
 pub listener-line : verdictOf (listener [] 4) ≡ leaks 5 3 327
-unfolding verdictOf listener
-listener-line = refl
+unfolding verdictBySixteen refusedBySixteen listener
+listener-line = by-sixteen (listener [] 4) refl refl
 
 pub listener-held-line : verdictOf (listener (9 ∷ 1 ∷ []) 4) ≡ confined 27
-unfolding verdictOf listener
-listener-held-line = refl
+unfolding verdictBySixteen refusedBySixteen listener
+listener-held-line = by-sixteen (listener (9 ∷ 1 ∷ []) 4) refl refl
 
 pub listener-named-line : verdictOf (listener (9 ∷ 1 ∷ 1 ∷ 4 ∷ 3 ∷ []) 4) ≡ leaks 5 3 46
-unfolding verdictOf listener
-listener-named-line = refl
+unfolding verdictBySixteen refusedBySixteen listener
+listener-named-line = by-sixteen (listener (9 ∷ 1 ∷ 1 ∷ 4 ∷ 3 ∷ []) 4) refl refl
 
 -- what hangs on the prototype property: the host finds it in a function of the guest's
 pub property-line : verdictOf (listener [] 3) ≡ leaks 5 3 327
-unfolding verdictOf listener
-property-line = refl
+unfolding verdictBySixteen refusedBySixteen listener
+property-line = by-sixteen (listener [] 3) refl refl
 
 pub property-absent-line : verdictOf (listener (9 ∷ 1 ∷ []) 3) ≡ confined 27
-unfolding verdictOf listener
-property-absent-line = refl
+unfolding verdictBySixteen refusedBySixteen listener
+property-absent-line = by-sixteen (listener (9 ∷ 1 ∷ []) 3) refl refl
 
 pub property-named-line : verdictOf (listener (9 ∷ 1 ∷ 1 ∷ 3 ∷ 3 ∷ []) 3) ≡ leaks 5 3 48
-unfolding verdictOf listener
-property-named-line = refl
+unfolding verdictBySixteen refusedBySixteen listener
+property-named-line = by-sixteen (listener (9 ∷ 1 ∷ 1 ∷ 3 ∷ 3 ∷ []) 3) refl refl
 
 -- its new looks up name 3 all the same
 pub constructor-named-line : verdictOf (constructor (9 ∷ 1 ∷ 1 ∷ 4 ∷ 3 ∷ []) 4) ≡ leaks 5 3 52
-unfolding verdictOf constructor
-constructor-named-line = refl
+unfolding verdictBySixteen refusedBySixteen constructor
+constructor-named-line = by-sixteen (constructor (9 ∷ 1 ∷ 1 ∷ 4 ∷ 3 ∷ []) 4) refl refl
 
 pub constructor-held-line : verdictOf (constructor (9 ∷ 1 ∷ 1 ∷ 4 ∷ 3 ∷ []) 9) ≡ confined 42
-unfolding verdictOf constructor
-constructor-held-line = refl
+unfolding verdictBySixteen refusedBySixteen constructor
+constructor-held-line = by-sixteen (constructor (9 ∷ 1 ∷ 1 ∷ 4 ∷ 3 ∷ []) 9) refl refl

@@ -1,11 +1,9 @@
 -- A use that goes through a set that was told: chains first, then what is found on them. Assumes nothing.
-use mathlib.Core.Path.{_≡_, refl, sym, _∙_}
+use mathlib.Core.Path.{_≡_, refl}
 use mathlib.Core.Logic.{inl, inr}
 use mathlib.Core.Bool.{Bool, true, false}
 use mathlib.Core.List.{List}
 use Prim.Native.Nat.{ℕ}
-use lib.Dec.{eqb}
-use borrow.Author.Tests.{eqb-true}
 use Rattle.words.proofs.Bits.{On, empty-off}
 use Rattle.rules.specs.Table.{Table, Within}
 use Rattle.rules.specs.Rule.{Rule, when}
@@ -43,10 +41,7 @@ pub when-told : (L : ℕ) (t : Table) (p : Rule) (b : Bool) (r l : ℕ) → Told
 when-told L t p true r l h = (refl, h)
 when-told L t p false r l h = absurd h
 
--- ---- what a test for an empty set says
-
-pub is-none : (v : ℕ) {b : Bool} → b ≡ eqb v 0 → b ≡ true → v ≡ 0
-is-none v e h = eqb-true v 0 (sym e ∙ h)
+-- ---- no label
 
 pub none-on : (s l : ℕ) → s ≡ 0 → On s l → ⊥
 none-on s l e h = empty-off l (rw e at h)

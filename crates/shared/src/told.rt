@@ -33,6 +33,9 @@ pub fn told_chains(t: &[u64], wide: bool, keeps: &mut [u64; 256], v: Var, s: Set
     let none = sets::none(wide);
     let asked = kept::ask(keeps, wide, pair, s, none);
     let rest = asked.rest;
+    if sets::is_empty(wide, rest) {
+        return asked.base;
+    }
     let more = uses::gather(t, wide, Label(0).chain(wide), rest);
     kept::answer(keeps, wide, pair, s, asked, more)
 }
@@ -45,6 +48,9 @@ fn told_throws(t: &[u64], wide: bool, keeps: &mut [u64; 256], s: Set, have: Set)
     let pair = kept::THROWS;
     let asked = kept::ask(keeps, wide, pair, s, have);
     let rest = asked.rest;
+    if sets::is_empty(wide, rest) {
+        return asked.base;
+    }
     let more = uses::gather(t, wide, Label(0).thrown(wide), rest);
     kept::answer(keeps, wide, pair, s, asked, more)
 }
@@ -97,6 +103,9 @@ pub fn told_under(
     }
     let asked = kept::ask(keeps, wide, pair, s, have);
     let rest = asked.rest;
+    if sets::is_empty(wide, rest) {
+        return asked.base;
+    }
     let more = uses::gather_under(t, wide, names, rest);
     kept::answer(keeps, wide, pair, s, asked, more)
 }
@@ -119,6 +128,9 @@ fn told_handed(
     let pair = kept::HANDED;
     let asked = kept::ask(keeps, wide, pair, s, have);
     let rest = asked.rest;
+    if sets::is_empty(wide, rest) {
+        return asked.base;
+    }
     let more = host::handed::gather_handed(t, wide, first, second, third, fourth, rest);
     kept::answer(keeps, wide, pair, s, asked, more)
 }

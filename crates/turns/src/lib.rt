@@ -160,7 +160,7 @@ pub fn search_on(
         let grew = in_part | as_whole;
         forget_if(grew, keeps, wide);
         let grown = grown_at(grew, at);
-        search::written::note_written(
+        growth::written::note_written(
             wide,
             t,
             file,
@@ -170,10 +170,10 @@ pub fn search_on(
             &seen_second,
             &seen_third,
             &seen_fourth,
+            &mut stored,
             &mut notes,
             grown,
         );
-        search::written::note_properties(wide, t, file, host, &mut stored, &mut notes, grown);
         let to = linking::ends::ends_read(
             wide,
             t,
@@ -200,8 +200,8 @@ pub fn search_on(
             grown,
             to,
         );
-        let over = search::rounds::is_last(&notes);
-        search::written::note_every_variable(
+        let over = growth::rounds::is_last(&notes);
+        growth::written::note_every_variable(
             t,
             wide,
             &seen_first,
@@ -210,7 +210,7 @@ pub fn search_on(
             &seen_fourth,
             &mut notes,
         );
-        search::rounds::begin_round(
+        growth::rounds::begin_round(
             wide,
             t,
             first,

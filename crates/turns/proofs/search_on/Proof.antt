@@ -33,7 +33,7 @@ abbrev round-of : tie.After-goes-on Inv-loop μ-loop → tie.After-begin-round I
 round-of c = c .before
 
 abbrev forget-of : tie.After-begin-round Inv-loop μ-loop → tie.After-forget-if Inv-loop μ-loop
-forget-of c = c .before .before .before .before .before .before .before .before .before .before .before .before .before .before .before .before .before .before .before .before .before .before .before .before .before .before .before .before .before .before .before .before .before .before .before .before .before
+forget-of c = c .before .before .before .before .before .before .before .before .before .before .before .before .before .before .before .before .before .before .before .before .before .before .before .before .before .before .before .before .before .before .before .before .before .before
 
 abbrev whole-of : tie.After-forget-if Inv-loop μ-loop → tie.After-use-at Inv-loop μ-loop
 whole-of c = c .before .before .before .before
@@ -123,4 +123,4 @@ loop-again c =
 
 pub search-on-spec : {M : Type 1} → statement M
 search-on-spec =
-    tie.close (tie.spec Inv-loop μ-loop (λ c known. steps-none) index-readers-requires index-file-requires see-all-requires (λ c. (refl, λ e. omega arith, λ known. steps-none)) (λ c κs. search needs) begin-part-requires next-requires part-of-requires use-part-requires (λ c κs. search needs) use-at-requires (λ c κs. search needs) (λ c κs. search needs) (λ c κs. search (needs, room-after)) (λ c κs. search (needs, room-after)) (λ c κs. search (needs, room-after)) (λ c κs. search (needs, room-after)) (λ c κs. search needs) (λ c κs. search (needs, room-after)) (λ c κs. search (needs, room-after)) add-turns (λ c κs. search needs) loop-less loop-again (λ c. c .before .loop .inv .0) (λ c. c .before .loop .inv .2))
+    tie.close (tie.spec Inv-loop μ-loop (λ c known. steps-none) index-readers-requires index-file-requires see-all-requires (λ c. (refl, λ e. omega arith, λ known. steps-none)) (λ c κs. search needs) begin-part-requires next-requires part-of-requires use-part-requires (λ c κs. search needs) use-at-requires (λ c κs. search needs) (λ c κs. search needs) (λ c κs. search (needs, room-after)) (λ c κs. search (needs, room-after)) (λ c κs. search (needs, room-after)) (λ c κs. search needs) (λ c κs. search (needs, room-after)) (λ c κs. search (needs, room-after)) add-turns (λ c κs. search needs) loop-less loop-again (λ c. c .before .loop .inv .0) (λ c. c .before .loop .inv .2))

@@ -3,8 +3,8 @@ use borrow.Author.Needs.{needs}
 use Prim.Native.Nat.{_≤_, _-_}
 use native.Mathlib.Omega.{arith}
 use Rattle.records.proofs.Walks.{five-labels}
-use Rattle.search.proofs.grown.note_callees.Statement.{statement}
-use Rattle.search.proofs.grown.note_callees.Tie as tie
+use Rattle.growth.proofs.grown.note_callees.Statement.{statement}
+use Rattle.growth.proofs.grown.note_callees.Tie as tie
 
 abbrev Inv-loop : tie.InvT-loop
 Inv-loop t wide first second third fourth notes₀ l₀ l-end notes l = l ≤ l-end

@@ -3,8 +3,8 @@ use borrow.Author.Needs.{needs}
 use mathlib.Core.Bool.{true}
 use Rattle.sets.specs.Value.{value}
 use Rattle.sets.proofs.Values.{some-left}
-use Rattle.search.proofs.grown.put_holders.Statement.{statement}
-use Rattle.search.proofs.grown.put_holders.Tie as tie
+use Rattle.growth.proofs.grown.put_holders.Statement.{statement}
+use Rattle.growth.proofs.grown.put_holders.Tie as tie
 
 abbrev Inv-loop : tie.InvT-loop
 Inv-loop t wide notes₀ place labels rest₀ notes rest = Unit {0}

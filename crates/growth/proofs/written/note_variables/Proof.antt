@@ -3,8 +3,8 @@ use borrow.Author.Needs.{needs}
 use mathlib.Core.Bool.{true}
 use Rattle.sets.specs.Value.{value}
 use Rattle.sets.proofs.Values.{some-left}
-use Rattle.search.proofs.written.note_variables.Statement.{statement}
-use Rattle.search.proofs.written.note_variables.Tie as tie
+use Rattle.growth.proofs.written.note_variables.Statement.{statement}
+use Rattle.growth.proofs.written.note_variables.Tie as tie
 
 abbrev Inv-loop : tie.InvT-loop
 Inv-loop t wide a b c d notes₀ rest₀ notes rest = Unit {0}

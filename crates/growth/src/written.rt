@@ -119,8 +119,8 @@ fn note_guest(
     note_names(names_in, bag, names);
 }
 
-// The record at `at`, or the lines, grew something: notes the variables. Nothing grew where `at` is END.
-pub fn note_written(
+// Notes the variables that the record at `at` grew.
+fn note_results(
     wide: bool,
     t: &[u64],
     file: &[u8],
@@ -135,9 +135,6 @@ pub fn note_written(
 )
     requires { ⌜ wordCount wide ≤ length (now t) ⌝ }
 {
-    if LINES <= at {
-        return;
-    }
     if has_result(file, at) {
         note_variable(t, wide, a, b, c, d, notes, byte(file, at, 2));
         return;
@@ -147,12 +144,17 @@ pub fn note_written(
     note_variables(t, wide, a, b, c, d, notes, variables);
 }
 
-// The same for what was stored.
-pub fn note_properties(
+// The record at `at`, or the lines, grew something: notes what. Nothing grew where `at` is END.
+pub fn note_written(
     wide: bool,
     t: &[u64],
     file: &[u8],
     host: &[u64; host::WORDS],
+    formals: &[u8; 1792],
+    a: &[u64; 256],
+    b: &[u64; 256],
+    c: &[u64; 256],
+    d: &[u64; 256],
     names_in: &mut [u64; 256],
     notes: &mut [u64; 256],
     at: usize,
@@ -166,6 +168,7 @@ pub fn note_properties(
         note_guest(wide, t, host, names_in, notes);
         return;
     }
+    note_results(wide, t, file, host, formals, a, b, c, d, notes, at);
     note_stored(wide, t, file, host, names_in, notes, at);
 }
 

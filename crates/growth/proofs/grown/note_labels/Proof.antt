@@ -1,8 +1,8 @@
 -- A turn for each label. Assumes nothing.
 use borrow.Author.Needs.{needs}
 use Prim.Native.Nat.{_≤_, _-_}
-use Rattle.search.proofs.grown.note_labels.Statement.{statement}
-use Rattle.search.proofs.grown.note_labels.Tie as tie
+use Rattle.growth.proofs.grown.note_labels.Statement.{statement}
+use Rattle.growth.proofs.grown.note_labels.Tie as tie
 
 abbrev Inv-loop : tie.InvT-loop
 Inv-loop t wide sizes₀ notes₀ i₀ sizes notes i = i ≤ 256
