@@ -119,8 +119,8 @@ fn note_guest(
     note_names(names_in, bag, names);
 }
 
-// Notes the variables that the record at `at` grew.
-fn note_results(
+// Notes the variables that the record at `at`, which grew something, may have grown.
+fn note_ends(
     wide: bool,
     t: &[u64],
     file: &[u8],
@@ -168,7 +168,7 @@ pub fn note_written(
         note_guest(wide, t, host, names_in, notes);
         return;
     }
-    note_results(wide, t, file, host, formals, a, b, c, d, notes, at);
+    note_ends(wide, t, file, host, formals, a, b, c, d, notes, at);
     note_stored(wide, t, file, host, names_in, notes, at);
 }
 

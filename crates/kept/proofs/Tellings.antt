@@ -1,13 +1,11 @@
 -- What is told for a set of labels by a pair that is a union: the kept set is part of the set, or its union is held already, or the pair is of no use.
 -- Assumes nothing.
-use mathlib.Core.Path.{_≡_, refl, sym, _∙_}
+use mathlib.Core.Path.{_≡_, refl, sym}
 use mathlib.Core.Logic.{inl, inr, ⊎-elim}
 use mathlib.Core.Bool.{Bool, true}
 use mathlib.Core.List.{List}
 use Prim.Native.Nat.{ℕ, _<_}
 use lib.Bits.{or-zero-l, or-zero-r}
-use lib.Dec.{eqb}
-use borrow.Author.Tests.{eqb-true}
 use Rattle.words.specs.Words.{union, difference}
 use Rattle.words.proofs.Bits.{Subset, empty-off, on-union, on-left, on-right, on-difference, difference-on}
 use Rattle.rules.specs.Table.{Table}
@@ -25,10 +23,6 @@ pub asks-room : {wide fresh : Bool} {keeps : List ℕ} {pair s have base rest : 
 asks-room (part i a b c) e = i
 asks-room (held i a b c) e = i
 asks-room (all i a b) e = i e
-
--- what a test for an empty set says
-pub is-none : (v : ℕ) {b : Bool} → b ≡ eqb v 0 → b ≡ true → v ≡ 0
-is-none v e h = eqb-true v 0 (sym e ∙ h)
 
 -- ---- unions put together
 
@@ -88,13 +82,13 @@ tellings-spared {wide} {pair} {s} {have} {rest} {r} {keeps} {wider} slot p t loo
 
 -- ---- the answer
 
-union-none : (x : ℕ) → union 0 x ≡ x
+union-none-left : (x : ℕ) → union 0 x ≡ x
 unfolding union
-union-none x = or-zero-l x
+union-none-left x = or-zero-l x
 
-union-nothing : (x : ℕ) → union x 0 ≡ x
+union-none-right : (x : ℕ) → union x 0 ≡ x
 unfolding union
-union-nothing x = or-zero-r x
+union-none-right x = or-zero-r x
 
 pub tellings : {wide fresh : Bool} {pair s have base rest more r : ℕ} {before after : List ℕ} {slot : Slot} (p : Program) (t : List ℕ) → Union slot
     → (pair < pairCount wide → slotOf pair ≡ slot) → Asks wide before pair s have base rest fresh
@@ -124,10 +118,10 @@ tellings {wide} {fresh} {pair} {s} {have} {base} {rest} {more} {r} {before} {aft
         → Answer (Tells wide p slot) (tableOf wide old) (tableOf wide t) s have r × Remembers wide o p old t after
     go (part i within e f) g a = whole (rw (a .joined, e) (gathered-part then within (kept i) (rw f at g))) a
     go (held i within e f) g a = (
-      rw (a .joined, e, union-none more) (answer-held then within (kept i) (rw f at g)),
+      rw (a .joined, e, union-none-left more) (answer-held then within (kept i) (rw f at g)),
       ⊎-elim (λ e. rw e remembers) (λ e. never (e .0)) (a .left),
     )
-    go (all i e f) g a = whole (rw (a .joined, e, union-none more) (gathered-all then (rw f at g))) a
+    go (all i e f) g a = whole (rw (a .joined, e, union-none-left more) (gathered-all then (rw f at g))) a
 
 -- no label is left to be read
 pub tellings-known : {wide fresh : Bool} {pair s have base rest : ℕ} {keeps : List ℕ} {slot : Slot} (p : Program) (t : List ℕ) → Union slot
@@ -135,4 +129,4 @@ pub tellings-known : {wide fresh : Bool} {pair s have base rest : ℕ} {keeps : 
     → Tellings wide p slot t s have base keeps keeps
 tellings-known {base = base} p t looked here asks e =
     tellings p t looked here asks (rw e (record { source = λ m h. absurd (empty-off m h); all = λ l m h i. absurd (empty-off l h) }))
-    (record { joined = sym (union-nothing base); left = inl refl })
+    (record { joined = sym (union-none-right base); left = inl refl })

@@ -46,21 +46,24 @@ fn with_of(keeps: &[u64; 256], wide: bool, pair: usize) -> Set
     lent::row(keeps, 0, wide, 2 * pair + 1)
 }
 
-// What a union asks: `base` is known, `rest` is to be read, and where the pair is of use no longer or the answer is larger, it may take its place.
+// What a union asks: `base` is known, `rest` is to be read, none where `known`; and where the pair is of use no longer or the answer is larger, it may take its
+// place.
 pub struct Asked {
     pub base: Set,
     pub rest: Set,
+    pub known: bool,
     pub fresh: bool,
 }
 
 // What is still to be read for the union over s, where what `have` holds need not be told.
 pub fn ask(keeps: &[u64; 256], wide: bool, pair: usize, s: Set, have: Set) -> Asked
-    ensures { λ r. ⌜ Asks wide (now (keeps .entry)) pair (value wide s) (value wide have) (value wide (r .base)) (value wide (r .rest)) (r .fresh) ⌝ }
+    ensures { λ r. ⌜ Asks wide (now (keeps .entry)) pair (value wide s) (value wide have) (value wide (r .base)) (value wide (r .rest)) (r .fresh) × (r .known ≡ true → value wide (r .rest) ≡ 0) ⌝ }
 {
     let none = sets::none(wide);
     let whole = Asked {
         base: none,
         rest: s,
+        known: false,
         fresh: false,
     };
     if !is_kept(wide, pair) {
@@ -69,10 +72,12 @@ pub fn ask(keeps: &[u64; 256], wide: bool, pair: usize, s: Set, have: Set) -> As
     let a = set_of(keeps, wide, pair);
     let v = with_of(keeps, wide, pair);
     let rest = sets::without(wide, s, a);
+    let known = sets::is_empty(wide, rest);
     if sets::is_within(wide, a, s) {
         return Asked {
             base: v,
             rest,
+            known,
             fresh: true,
         };
     }
@@ -80,12 +85,14 @@ pub fn ask(keeps: &[u64; 256], wide: bool, pair: usize, s: Set, have: Set) -> As
         return Asked {
             base: none,
             rest,
+            known,
             fresh: false,
         };
     }
     Asked {
         base: none,
         rest: s,
+        known: false,
         fresh: sets::size(wide, a) <= sets::size(wide, s),
     }
 }

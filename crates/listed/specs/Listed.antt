@@ -1,5 +1,5 @@
 -- The eight lines of document 01, "shown from the definitions as a single list with one fact about it". Assumes nothing.
-use mathlib.Core.Path.{_≡_, refl, _∙_}
+use mathlib.Core.Path.{_≡_, refl, _∙_, ap}
 use mathlib.Core.List.{List, [], _∷_, map}
 use Prim.Native.Nat.{ℕ}
 use native.Mathlib.Omega.{arith}
@@ -15,56 +15,53 @@ use Rattle.verdicts.specs.Verdict.{verdictOutcome}
 use Rattle.editions.proofs.Same.{same}
 use Rattle.listed.specs.Files.{emptyFile, guestForbidden, journal, namedJournal, grantedJournal, builtInJournal, grantedLogger, returningLogger, files, lines}
 
--- the verdict on a file in the edition of 64 labels, with a table of full size lent
-unfoldable pub verdictOf : List ℕ → Outcome
+-- what is refused of a file and the verdict on it in an edition of L labels, with a table of full size lent
+unfoldable pub judgedIn : ℕ → List ℕ → ℕ × Outcome
 unfolding start good refusalOf firstBad misnamed twice after wholeRefusal bodyRefusal recordRefusal readOn readFrom lacking finished chosen statements namesOf returnsOf verdictOutcome
-verdictOf xs = verdictOutcome 64 (rowCount 64) xs
+judgedIn L xs = (readFile L xs .refusal, verdictOutcome L (rowCount L) xs)
 
--- the same with 16 labels, whose table is a third as long, and what is refused of the file there
-unfoldable pub verdictBySixteen : List ℕ → Outcome
-unfolding start good refusalOf firstBad misnamed twice after wholeRefusal bodyRefusal recordRefusal readOn readFrom lacking finished chosen statements namesOf returnsOf verdictOutcome
-verdictBySixteen xs = verdictOutcome 16 (rowCount 16) xs
+-- the verdict in the edition of 64 labels
+abbrev pub verdictOf : List ℕ → Outcome
+verdictOf xs = judgedIn 64 xs .1
 
-unfoldable pub refusedBySixteen : List ℕ → ℕ
-unfolding start good refusalOf firstBad misnamed twice after wholeRefusal bodyRefusal recordRefusal readOn readFrom lacking finished
-refusedBySixteen xs = readFile 16 xs .refusal
-
--- what is computed with 16 labels is so with 64, where the file can be read
-pub by-sixteen : (xs : List ℕ) {o : Outcome} → refusedBySixteen xs ≡ 0 → verdictBySixteen xs ≡ o → verdictOf xs ≡ o
-unfolding verdictOf verdictBySixteen refusedBySixteen
-by-sixteen xs ok e = same 16 64 (omega arith) (omega arith) xs ok .outcome (rowCount 16) (rowCount 64) (omega arith) (omega arith) ∙ e
+-- What is computed with 16 labels, whose table is a third as long, is so with 64, where the file can be read (document 02, Req 13).
+pub by-sixteen : (xs : List ℕ) {o : Outcome} → judgedIn 16 xs ≡ (0, o) → verdictOf xs ≡ o
+unfolding judgedIn
+by-sixteen xs e =
+    let refusal = ap (λ (x : ℕ × Outcome). x .0) e in
+    same 16 64 (omega arith) (omega arith) xs refusal .outcome (rowCount 16) (rowCount 64) (omega arith) (omega arith) ∙ ap (λ (x : ℕ × Outcome). x .1) e
 
 empty-line : verdictOf emptyFile ≡ confined 45
-unfolding verdictBySixteen refusedBySixteen emptyFile
-empty-line = by-sixteen emptyFile refl refl
+unfolding judgedIn emptyFile
+empty-line = by-sixteen emptyFile refl
 
 guest-forbidden-line : verdictOf guestForbidden ≡ leaks 3 3 45
-unfolding verdictBySixteen refusedBySixteen guestForbidden
-guest-forbidden-line = by-sixteen guestForbidden refl refl
+unfolding judgedIn guestForbidden
+guest-forbidden-line = by-sixteen guestForbidden refl
 
 journal-line : verdictOf journal ≡ confined 48
-unfolding verdictBySixteen refusedBySixteen journal
-journal-line = by-sixteen journal refl refl
+unfolding judgedIn journal
+journal-line = by-sixteen journal refl
 
 named-journal-line : verdictOf namedJournal ≡ confined 49
-unfolding verdictBySixteen refusedBySixteen namedJournal
-named-journal-line = by-sixteen namedJournal refl refl
+unfolding judgedIn namedJournal
+named-journal-line = by-sixteen namedJournal refl
 
 granted-journal-line : verdictOf grantedJournal ≡ leaks 5 3 148
-unfolding verdictBySixteen refusedBySixteen grantedJournal
-granted-journal-line = by-sixteen grantedJournal refl refl
+unfolding judgedIn grantedJournal
+granted-journal-line = by-sixteen grantedJournal refl
 
 built-in-journal-line : verdictOf builtInJournal ≡ leaks 5 3 84
-unfolding verdictBySixteen refusedBySixteen builtInJournal
-built-in-journal-line = by-sixteen builtInJournal refl refl
+unfolding judgedIn builtInJournal
+built-in-journal-line = by-sixteen builtInJournal refl
 
 granted-logger-line : verdictOf grantedLogger ≡ confined 152
-unfolding verdictBySixteen refusedBySixteen grantedLogger
-granted-logger-line = by-sixteen grantedLogger refl refl
+unfolding judgedIn grantedLogger
+granted-logger-line = by-sixteen grantedLogger refl
 
 returning-logger-line : verdictOf returningLogger ≡ leaks 5 3 316
-unfolding verdictBySixteen refusedBySixteen returningLogger
-returning-logger-line = by-sixteen returningLogger refl refl
+unfolding judgedIn returningLogger
+returning-logger-line = by-sixteen returningLogger refl
 
 -- all eight
 pub listed : map verdictOf files ≡ lines

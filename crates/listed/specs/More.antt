@@ -2,48 +2,48 @@
 use mathlib.Core.Path.{_≡_, refl}
 use mathlib.Core.List.{[], _∷_, map}
 use Rattle.answer.specs.Outcome.{confined, leaks}
-use Rattle.listed.specs.Listed.{verdictOf, verdictBySixteen, refusedBySixteen, by-sixteen}
+use Rattle.listed.specs.Listed.{judgedIn, verdictOf, by-sixteen}
 use Rattle.listed.specs.MoreFiles.{primitiveLoad, throwingLogger, returnedToHost, thrownToHost, convertedJournal, constructedJournal, storedByClass, storedElsewhere, arrayPrototype, builtInStore, moreFiles, moreLines}
 
 primitive-load-line : verdictOf primitiveLoad ≡ leaks 5 3 151
-unfolding verdictBySixteen refusedBySixteen primitiveLoad
-primitive-load-line = by-sixteen primitiveLoad refl refl
+unfolding judgedIn primitiveLoad
+primitive-load-line = by-sixteen primitiveLoad refl
 
 throwing-logger-line : verdictOf throwingLogger ≡ leaks 5 3 317
-unfolding verdictBySixteen refusedBySixteen throwingLogger
-throwing-logger-line = by-sixteen throwingLogger refl refl
+unfolding judgedIn throwingLogger
+throwing-logger-line = by-sixteen throwingLogger refl
 
 returned-to-host-line : verdictOf returnedToHost ≡ leaks 5 3 153
-unfolding verdictBySixteen refusedBySixteen returnedToHost
-returned-to-host-line = by-sixteen returnedToHost refl refl
+unfolding judgedIn returnedToHost
+returned-to-host-line = by-sixteen returnedToHost refl
 
 thrown-to-host-line : verdictOf thrownToHost ≡ leaks 5 3 155
-unfolding verdictBySixteen refusedBySixteen thrownToHost
-thrown-to-host-line = by-sixteen thrownToHost refl refl
+unfolding judgedIn thrownToHost
+thrown-to-host-line = by-sixteen thrownToHost refl
 
 converted-journal-line : verdictOf convertedJournal ≡ leaks 5 3 319
-unfolding verdictBySixteen refusedBySixteen convertedJournal
-converted-journal-line = by-sixteen convertedJournal refl refl
+unfolding judgedIn convertedJournal
+converted-journal-line = by-sixteen convertedJournal refl
 
 constructed-journal-line : verdictOf constructedJournal ≡ leaks 5 3 161
-unfolding verdictBySixteen refusedBySixteen constructedJournal
-constructed-journal-line = by-sixteen constructedJournal refl refl
+unfolding judgedIn constructedJournal
+constructed-journal-line = by-sixteen constructedJournal refl
 
 stored-by-class-line : verdictOf storedByClass ≡ leaks 5 3 153
-unfolding verdictBySixteen refusedBySixteen storedByClass
-stored-by-class-line = by-sixteen storedByClass refl refl
+unfolding judgedIn storedByClass
+stored-by-class-line = by-sixteen storedByClass refl
 
 stored-elsewhere-line : verdictOf storedElsewhere ≡ confined 52
-unfolding verdictBySixteen refusedBySixteen storedElsewhere
-stored-elsewhere-line = by-sixteen storedElsewhere refl refl
+unfolding judgedIn storedElsewhere
+stored-elsewhere-line = by-sixteen storedElsewhere refl
 
 array-prototype-line : verdictOf arrayPrototype ≡ leaks 5 3 156
-unfolding verdictBySixteen refusedBySixteen arrayPrototype
-array-prototype-line = by-sixteen arrayPrototype refl refl
+unfolding judgedIn arrayPrototype
+array-prototype-line = by-sixteen arrayPrototype refl
 
 built-in-store-line : verdictOf builtInStore ≡ confined 56
-unfolding verdictBySixteen refusedBySixteen builtInStore
-built-in-store-line = by-sixteen builtInStore refl refl
+unfolding judgedIn builtInStore
+built-in-store-line = by-sixteen builtInStore refl
 
 pub more : map verdictOf moreFiles ≡ moreLines
 unfolding moreFiles moreLines

@@ -1,1 +1,2 @@
-// Document 01's listed files, computed from the definitions. This crate has definitions and facts only.
+// Document 01's eight files, from their bytes, as one list with one fact, and more files with the verdicts that the definitions give them. This crate has
+// definitions and facts only.

@@ -4,4 +4,4 @@
 
 pub mod next;
 pub mod readers;
-pub mod wakes;
+mod wakes;

@@ -89,6 +89,10 @@ bounds a b =
     let r = and-le-r a b in
     record { left = omega arith; right = omega arith; sum = omega arith }
 
+-- what a test for an empty set says
+pub is-none : (v : ℕ) {b : Bool} → b ≡ eqb v 0 → b ≡ true → v ≡ 0
+is-none v e h = eqb-true v 0 (sym e ∙ h)
+
 -- what `while !is_empty(wide, rest)` knows in the loop, and behind it
 pub some-left : (v : ℕ) {b : Bool} → b ≡ eqb v 0 → not b ≡ true → 0 < v
 some-left v {b} e h =
@@ -96,7 +100,7 @@ some-left v {b} e h =
     omega (arith, d)
 
 pub none-left : (v : ℕ) {b : Bool} → b ≡ eqb v 0 → not b ≡ false → v ≡ 0
-none-left v {b} e h = eqb-true v 0 (sym e ∙ not-false b h)
+none-left v {b} e h = is-none v e (not-false b h)
 
 -- a run is 0 where its words are
 cat-zero : (n w : ℕ) → n * 2 ^ 64 + w ≡ 0 → (n ≡ 0) × (w ≡ 0)

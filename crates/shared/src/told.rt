@@ -32,10 +32,10 @@ pub fn told_chains(t: &[u64], wide: bool, keeps: &mut [u64; 256], v: Var, s: Set
     let pair = chain_pair(v);
     let none = sets::none(wide);
     let asked = kept::ask(keeps, wide, pair, s, none);
-    let rest = asked.rest;
-    if sets::is_empty(wide, rest) {
+    if asked.known {
         return asked.base;
     }
+    let rest = asked.rest;
     let more = uses::gather(t, wide, Label(0).chain(wide), rest);
     kept::answer(keeps, wide, pair, s, asked, more)
 }
@@ -47,10 +47,10 @@ fn told_throws(t: &[u64], wide: bool, keeps: &mut [u64; 256], s: Set, have: Set)
 {
     let pair = kept::THROWS;
     let asked = kept::ask(keeps, wide, pair, s, have);
-    let rest = asked.rest;
-    if sets::is_empty(wide, rest) {
+    if asked.known {
         return asked.base;
     }
+    let rest = asked.rest;
     let more = uses::gather(t, wide, Label(0).thrown(wide), rest);
     kept::answer(keeps, wide, pair, s, asked, more)
 }
@@ -102,10 +102,10 @@ pub fn told_under(
         return told_unkept(t, wide, host, keeps, names, s, have);
     }
     let asked = kept::ask(keeps, wide, pair, s, have);
-    let rest = asked.rest;
-    if sets::is_empty(wide, rest) {
+    if asked.known {
         return asked.base;
     }
+    let rest = asked.rest;
     let more = uses::gather_under(t, wide, names, rest);
     kept::answer(keeps, wide, pair, s, asked, more)
 }
@@ -127,10 +127,10 @@ fn told_handed(
 {
     let pair = kept::HANDED;
     let asked = kept::ask(keeps, wide, pair, s, have);
-    let rest = asked.rest;
-    if sets::is_empty(wide, rest) {
+    if asked.known {
         return asked.base;
     }
+    let rest = asked.rest;
     let more = host::handed::gather_handed(t, wide, first, second, third, fourth, rest);
     kept::answer(keeps, wide, pair, s, asked, more)
 }

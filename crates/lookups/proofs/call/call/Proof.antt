@@ -1,7 +1,7 @@
 -- A call: its inputs, what is handed back, what is thrown. Assumes nothing.
 use borrow.Author.Needs.{needs}
 use Rattle.sets.specs.Value.{value}
-use Rattle.kept.proofs.Tellings.{is-none}
+use Rattle.sets.proofs.Values.{is-none}
 use Rattle.lookups.proofs.Calls.{functions-are, calls-nothing, call-applies}
 use Rattle.lookups.proofs.call.call.Statement.{statement}
 use Rattle.lookups.proofs.call.call.Tie as tie

@@ -3,7 +3,7 @@ use mathlib.Core.Path.{refl}
 use borrow.Author.Needs.{needs}
 use native.Mathlib.Omega.{arith}
 use Rattle.sets.specs.Value.{value}
-use Rattle.kept.proofs.Tellings.{is-none}
+use Rattle.sets.proofs.Values.{is-none}
 use Rattle.lookups.proofs.Calls.{functions-are}
 use Rattle.lookups.proofs.Conversions.{converts-nothing, convert-applies}
 use Rattle.lookups.proofs.call.convert.Statement.{statement}

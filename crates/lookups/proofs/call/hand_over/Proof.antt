@@ -1,7 +1,7 @@
 -- One input: nothing where the variable is empty, else a spread. Assumes nothing.
 use borrow.Author.Needs.{needs}
 use Rattle.sets.specs.Value.{value}
-use Rattle.kept.proofs.Tellings.{is-none}
+use Rattle.sets.proofs.Values.{is-none}
 use Rattle.lookups.proofs.Calls.{hands-nothing, hands-over}
 use Rattle.lookups.proofs.call.hand_over.Statement.{statement}
 use Rattle.lookups.proofs.call.hand_over.Tie as tie

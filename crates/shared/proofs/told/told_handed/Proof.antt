@@ -1,7 +1,7 @@
 -- What functions hand back, by the pair. Assumes nothing.
 use borrow.Author.Needs.{needs}
 use Rattle.kept.proofs.Slots.{slot-handed}
-use Rattle.kept.proofs.Tellings.{asks-room, is-none, tellings, tellings-known}
+use Rattle.kept.proofs.Tellings.{asks-room, tellings, tellings-known}
 use Rattle.shared.proofs.Families.{handed-told, rest-part}
 use Rattle.shared.proofs.told.told_handed.Statement.{statement}
 use Rattle.shared.proofs.told.told_handed.Tie as tie
@@ -11,5 +11,5 @@ returns-2 c = λ p returning functions. search (needs, tellings, slot-handed, ha
 
 pub told-handed-spec : {M : Type 1} → statement M
 told-handed-spec =
-    tie.close (tie.spec (λ c κs. search needs) (λ c κs. search needs) (λ c p returning functions. search (needs, tellings-known, is-none, slot-handed))
-    (λ c κs. search needs) (λ c κs. asks-room (c .before .before .before .before .before .ask .ensures)) returns-2)
+    tie.close (tie.spec (λ c κs. search needs) (λ c p returning functions. search (needs, tellings-known, slot-handed, c .before .before .ask .ensures .1))
+    (λ c κs. search needs) (λ c κs. asks-room (c .before .before .before .before .ask .ensures .0)) returns-2)
