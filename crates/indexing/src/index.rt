@@ -12,6 +12,7 @@ use crate::notes::CALLEES;
 use crate::notes::CALLS;
 use crate::notes::NAMED;
 use crate::notes::OBJECTS;
+use crate::notes::RETURNED;
 use crate::notes::WORD;
 use crate::notes::place_of;
 use crate::notes::put;
@@ -143,7 +144,14 @@ pub fn index_readers(
     }
 }
 
-// Enters the record at `at`, if it reads something.
+// Notes the variable of a return.
+fn note_returned(file: &[u8], notes: &mut [u64; 256], at: usize) {
+    if byte(file, at, 0) == 23 {
+        put(notes, RETURNED, byte(file, at, 2));
+    }
+}
+
+// Enters the record at `at`, if it reads something, and notes what it returns.
 fn enter(
     wide: bool,
     file: &[u8],
@@ -157,6 +165,7 @@ fn enter(
     requires { ⌜ Walk (labels wide) (now file) at × (at < length (now file)) × Begins (labels wide) (now file) (now low) (now high) ⌝ }
     ensures { λ _. ⌜ Begins (labels wide) (now (file .entry)) (now (low .exit)) (now (high .exit)) ⌝ }
 {
+    note_returned(file, notes, at);
     if reads(byte(file, at, 0)) == 0 {
         return;
     }

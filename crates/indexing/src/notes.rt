@@ -113,11 +113,13 @@ pub const FROM_QUEUE: u64 = 1;
 
 pub const FROM_READERS: u64 = 2;
 
-// ---- the search as a whole: 1 where calls are looked for by variable too; how many rounds there were
+// ---- the search as a whole: 1 where calls are looked for by variable too; how many rounds there were; the variables that are returned
 
 pub const CALLS: usize = 123;
 
 pub const ROUNDS: usize = 124;
+
+pub const RETURNED: usize = 128;
 
 // ---- numbers
 

@@ -3,8 +3,13 @@
 ghost use Prim.Native.Nat.{_≤_};
 ghost use lib.ListN.{length};
 ghost use Rattle.rows.specs.Edition.{wordCount};
+use crate::notes::CALLS;
 use crate::notes::DUE;
+use crate::notes::NEWEST;
+use crate::notes::RETURNED;
 use crate::notes::has;
+use crate::notes::low_byte;
+use crate::notes::number;
 use crate::notes::place_of;
 use rows::Label;
 use rows::Var;
@@ -217,11 +222,22 @@ fn is_due(file: &[u8], notes: &[u64; 256], at: usize, j: usize) -> bool {
     has(notes, DUE, byte(file, at, j))
 }
 
+// Whether the call at `at` reads the variable that grew last, or a function returns it. Nothing is known where calls are not looked for by variable: one that
+// is passed over is then found in a round only.
+fn call_follows_new(file: &[u8], notes: &[u64; 256], at: usize) -> bool {
+    if notes[CALLS] == 0 {
+        return true;
+    }
+    let v = low_byte(number(notes[NEWEST]));
+    call_reads(file, at, v) | has(notes, RETURNED, v)
+}
+
 // Whether one of them holds something new; of other records, and of those that read a name or the bag too, nothing is known.
 pub fn follows_new(file: &[u8], notes: &[u64; 256], at: usize) -> bool {
     match byte(file, at, 0) {
         16 | 17 => is_due(file, notes, at, 3),
         18 => is_due(file, notes, at, 2) | is_due(file, notes, at, 4),
+        21 => call_follows_new(file, notes, at),
         24 => is_due(file, notes, at, 2),
         _ => true,
     }

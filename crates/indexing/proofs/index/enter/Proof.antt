@@ -10,7 +10,7 @@ returns-2 : tie.Need-returns-2
 returns-2 c =
     let high = c .before .before .before in
     let low = high .before .before in
-    let start = low .before .before .before .before .before .before in
+    let start = low .before .before .before .before .before .before .before .before in
     let here : BeginsAt (labels (start .args .wide)) (start .args .file .now) (start .args .at) = (start .pre .0, start .pre .1) in (
       begins-more 0 (start .args .low .now) (low .set-start .last .0) here (start .pre .2 .0) (low .set-start .ensures),
       begins-more 16384 (start .args .high .now) (high .set-start2 .last .0) here (start .pre .2 .1) (high .set-start2 .ensures),
@@ -18,5 +18,5 @@ returns-2 c =
 
 pub enter-spec : {M : Type 1} → statement M
 enter-spec =
-    tie.close (tie.spec (λ c κs. search needs) (λ c κs. search needs) (λ c. search needs) (λ c κs. search needs)
+    tie.close (tie.spec (λ c κs. search needs) (λ c κs. search needs) (λ c κs. search needs) (λ c. search needs) (λ c κs. search needs)
     (λ c κs. search needs) (λ c κs. search needs) returns-2)
