@@ -174,7 +174,7 @@ fn enter(
     enter_reads(file, host, index, notes, at);
 }
 
-// Enters the records of a file, and notes whether calls are among the readers of variables. All arrays are zeros at first.
+// Enters the records of a file, and notes which variables are returned and whether calls are among the readers of variables. All arrays are zeros at first.
 pub fn index_file(
     calls: bool,
     wide: bool,

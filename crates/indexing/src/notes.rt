@@ -14,10 +14,12 @@ pub const END: usize = 65536;
 // for each of the 32 names the blocks with a record that looks under it
 pub const NAMED: usize = 0;
 
-// the variables that are a record's callee; those that are the object of a load, a new or a prim
+// the variables that are a record's callee; those that are the object of a load, a new or a prim; those that are returned
 pub const CALLEES: usize = 32;
 
 pub const OBJECTS: usize = 36;
+
+pub const RETURNED: usize = 128;
 
 // ---- the queue and the recent records: how many there are; the place of the first, and of the next
 
@@ -113,13 +115,11 @@ pub const FROM_QUEUE: u64 = 1;
 
 pub const FROM_READERS: u64 = 2;
 
-// ---- the search as a whole: 1 where calls are looked for by variable too; how many rounds there were; the variables that are returned
+// ---- the search as a whole: 1 where calls are looked for by variable too; how many rounds there were
 
 pub const CALLS: usize = 123;
 
 pub const ROUNDS: usize = 124;
-
-pub const RETURNED: usize = 128;
 
 // ---- numbers
 

@@ -222,8 +222,8 @@ fn is_due(file: &[u8], notes: &[u64; 256], at: usize, j: usize) -> bool {
     has(notes, DUE, byte(file, at, j))
 }
 
-// Whether the call at `at` reads the variable that grew last, or a function returns it. Nothing is known where calls are not looked for by variable: one that
-// is passed over is then found in a round only.
+// Whether the call at `at` reads the variable that grew last, or there is a return of it. Nothing is known where calls are not looked for by variable, since
+// one that is passed over is found in a round only.
 fn call_follows_new(file: &[u8], notes: &[u64; 256], at: usize) -> bool {
     if notes[CALLS] == 0 {
         return true;
@@ -232,7 +232,7 @@ fn call_follows_new(file: &[u8], notes: &[u64; 256], at: usize) -> bool {
     call_reads(file, at, v) | has(notes, RETURNED, v)
 }
 
-// Whether one of them holds something new; of other records, and of those that read a name or the bag too, nothing is known.
+// Whether one of them holds something new, for a call see above; of other records, and of those that read a name or the bag too, nothing is known.
 pub fn follows_new(file: &[u8], notes: &[u64; 256], at: usize) -> bool {
     match byte(file, at, 0) {
         16 | 17 => is_due(file, notes, at, 3),

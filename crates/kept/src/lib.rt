@@ -46,8 +46,8 @@ fn with_of(keeps: &[u64; 256], wide: bool, pair: usize) -> Set
     lent::row(keeps, 0, wide, 2 * pair + 1)
 }
 
-// What a union asks: `base` is known, `rest` is to be read, none where `known`; and where the pair is of use no longer or the answer is larger, it may take its
-// place.
+// What a union asks: `base` is told already, `rest` is to be read, no label where `known`; and where the pair is of use no longer or the answer is larger, it
+// may take its place.
 pub struct Asked {
     pub base: Set,
     pub rest: Set,
