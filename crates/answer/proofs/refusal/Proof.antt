@@ -30,7 +30,7 @@ mul-result-2 c = let h = other _ _ c.before.requires c.if1.false in search rules
 add-result-2 : tie.Need-overflow-add-result-2
 add-result-2 c = let h = other _ _ c.before.requires c.if1.false in search rules
 
-pub refusal-spec : {M : Type 1} → statement M
-refusal-spec =
+pub refusal_spec : {M : Type 1} → statement M
+refusal_spec =
     tie.close (tie.spec mul-result add-result (λ c. rw (eq-eqb _ _ c.if1.true) (omega arith)) mul-result-2 add-result-2
     (λ c. rw (ne_eqb _ _ c.if1.false) (omega arith)))

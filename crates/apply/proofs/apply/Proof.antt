@@ -5,8 +5,8 @@ use Rattle.apply.proofs.Saying.{said, said_plain, said-nothing, said-return, bou
 use Rattle.apply.proofs.apply.Statement.{statement}
 use Rattle.apply.proofs.apply.Tie as tie
 
-pub apply-spec : {M : Type 1} → statement M
-apply-spec =
+pub apply_spec : {M : Type 1} → statement M
+apply_spec =
     tie.close (tie.spec (λ c. search rules) (λ c. search rules)
     (λ c κs. let b = bounds _ c.before.before.s.given.1 c.before.before.before.before.before.requires.1 in search rules)
     (λ c. search rules) (λ c κs. search rules) (λ c. search rules)

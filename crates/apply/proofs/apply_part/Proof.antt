@@ -6,8 +6,8 @@ use Rattle.apply.proofs.Saying.{said-part, bounds}
 use Rattle.apply.proofs.apply_part.Statement.{statement}
 use Rattle.apply.proofs.apply_part.Tie as tie
 
-pub apply-part-spec : {M : Type 1} → statement M
-apply-part-spec =
+pub apply_part_spec : {M : Type 1} → statement M
+apply_part_spec =
     tie.close (tie.spec (λ c. search rules)
     (λ c κs. let b = bounds _ c.before.before.s.given.1 c.before.before.before.before.before.requires.1 in search rules)
     (λ c. search rules)

@@ -10,8 +10,8 @@ array-share-prefix-file c = search (rules, read-within _ _ _ c.before.got.given.
 slice-aggregate-judge-both : tie.Need-slice-aggregate-judge-both
 slice-aggregate-judge-both c = search (rules, read-within _ _ _ c.before.before.got.given.1 c.before.before.before.before.before.read_all.ensures)
 
-pub show-spec : {M : Type 1} → statement M
-show-spec =
+pub show_spec : {M : Type 1} → statement M
+show_spec =
     tie.close (tie.spec (λ c κs. search rules) (λ c κs. search rules) (λ c. search rules) (λ c. search rules)
     (λ c κs. search rules) (λ c. search rules) array-share-prefix-file slice-aggregate-judge-both (λ c κs. search rules)
     (λ c. search rules) (λ c κs. search rules) (λ c. search rules) (λ c κs. search rules) (λ c κs. search rules)

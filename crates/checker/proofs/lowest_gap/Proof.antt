@@ -24,6 +24,6 @@ returns c =
     gap-shown start.args.table.now start.pre.2 start.pre.3 clean.before.before.declared.ensures clean.clean.ensures
     count.word_count.ensures.0 passed.pass-into.ensures c.lowest-grown.ensures
 
-pub lowest-gap-spec : {M : Type 1} → statement M
-lowest-gap-spec =
+pub lowest_gap_spec : {M : Type 1} → statement M
+lowest_gap_spec =
     tie.close (tie.spec (λ c κs. search rules) (λ c κs. search rules) (λ c κs. search rules) pass-into-requires lowest-grown-requires (λ c. search rules) returns)

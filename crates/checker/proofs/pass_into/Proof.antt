@@ -15,5 +15,5 @@ returns c =
     let here = known start.requires.2 laid.lay-out.ensures.0 laid.lay-out.ensures.1 in
     (pass.pass.ensures here).uses start.args.t.now (λ r l h. h) (remembers-none (padded [] 256 0))
 
-pub pass-into-spec : {M : Type 1} → statement M
-pass-into-spec = tie.close (tie.spec (λ c κs. search rules) (λ c κs. search rules) (λ c. search rules) returns)
+pub pass_into_spec : {M : Type 1} → statement M
+pass_into_spec = tie.close (tie.spec (λ c κs. search rules) (λ c κs. search rules) (λ c. search rules) returns)

@@ -68,7 +68,7 @@ returns c =
     let a = count.before.before.before.args in
     cleans-all a.wide a.table.now at.loop.r (omega (arith, at.loop.invariant.1, count.row_count.ensures.0)) at.loop.invariant.3
 
-pub clean-spec : {M : Type 1} → statement M
-clean-spec =
+pub clean_spec : {M : Type 1} → statement M
+clean_spec =
     tie.close (tie.spec invariant-loop decreases-loop (λ c κs. search rules) (λ c κs. search rules) write-both-requires loop-holds row-requires
     (λ c κs. search rules) write-both-requires-2 (λ c. search rules) (λ c. search rules) loop-again (λ c. search rules) returns)

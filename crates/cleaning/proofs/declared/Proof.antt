@@ -39,7 +39,7 @@ returns c =
     let e : at.loop.l ≡ labels count.before.args.wide = omega (arith, at.loop.invariant.0, count.labels.ensures.0) in
     rw e at at.loop.invariant.1
 
-pub declared-spec : {M : Type 1} → statement M
-declared-spec =
+pub declared_spec : {M : Type 1} → statement M
+declared_spec =
     tie.close (tie.spec invariant-loop decreases-loop (λ c κs. search rules) (λ c κs. search rules) loop-holds element-copy-out-with-label
     with-label-requires (λ c. search rules) (λ c. search rules) loop-again returns)

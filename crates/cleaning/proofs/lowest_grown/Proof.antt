@@ -73,7 +73,7 @@ returns-2 c =
     let a = count.before.before.args in
     grown-nowhere a.wide a.t.now at.loop.low (omega (arith, at.loop.invariant.0, count.row_count.ensures.0)) at.loop.invariant.1
 
-pub lowest-grown-spec : {M : Type 1} → statement M
-lowest-grown-spec =
+pub lowest_grown_spec : {M : Type 1} → statement M
+lowest_grown_spec =
     tie.close (tie.spec invariant-loop decreases-loop (λ c κs. search rules) (λ c κs. search rules) loop-holds row-requires row-requires-2
     (λ c κs. search rules) returns (λ c. search rules) (λ c. search rules) loop-again returns-2)

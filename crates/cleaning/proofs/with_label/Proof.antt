@@ -18,5 +18,5 @@ returns-2 c =
     let a = single.before.before.args in
     rw (ne_eqb a.kind 0 single.before.if1.false, ← single.single.ensures) c.union.ensures
 
-pub with-label-spec : {M : Type 1} → statement M
-with-label-spec = tie.close (tie.spec returns cast-t7 (λ c κs. search rules) (λ c κs. search rules) returns-2)
+pub with_label_spec : {M : Type 1} → statement M
+with_label_spec = tie.close (tie.spec returns cast-t7 (λ c κs. search rules) (λ c κs. search rules) returns-2)

@@ -30,5 +30,5 @@ returns c =
     let a = start.args in
     both_stored a.wide count.word_count.result a.r count.word_count.ensures.0 start.requires.1 first.write.ensures second.write2.ensures
 
-pub write-both-spec : {M : Type 1} → statement M
-write-both-spec = tie.close (tie.spec (λ c κs. search rules) write-requires write-requires-2 (λ c. search rules) returns)
+pub write_both_spec : {M : Type 1} → statement M
+write_both_spec = tie.close (tie.spec (λ c κs. search rules) write-requires write-requires-2 (λ c. search rules) returns)

@@ -10,6 +10,6 @@ row-requires c κs =
     let a = c.before.before.before.before.before.before.before.args in
     row_read a.wide 1 _ (search rules) (variable-row a.wide (omega arith))
 
-pub print-verdict-spec : {M : Type 1} → statement M
-print-verdict-spec =
+pub print_verdict_spec : {M : Type 1} → statement M
+print_verdict_spec =
     tie.close (tie.spec (λ c κs. search rules) row-requires (λ c κs. search rules) (λ c. search rules) (λ c. search rules))

@@ -23,7 +23,7 @@ returns-2 c =
     let e = rw c.before.before.before.before.labels.ensures.0 at c.before.before.is-good.ensures in
     rw (← e, c.before.if1.false) c.refusal-of.ensures
 
-pub field-refusal-spec : {M : Type 1} → statement M
-field-refusal-spec =
+pub field_refusal_spec : {M : Type 1} → statement M
+field_refusal_spec =
     tie.close (tie.spec (λ c κs. search rules) slice-aggregate-counted (λ c κs. search rules) returns (λ c κs. search rules)
     returns-2)

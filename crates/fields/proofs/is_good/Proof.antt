@@ -22,9 +22,9 @@ returns-18 c =
     let m : 17 ≤ c.before.before.before.before.args.class = beyond 17 _ c.before.match.rest in
     rw (class-rest _ m) c.is_key.ensures
 
-pub is-good-spec : {M : Type 1} → statement M
+pub is_good_spec : {M : Type 1} → statement M
 unfolding good
-is-good-spec =
+is_good_spec =
     tie.close (tie.spec (λ c κs. search rules) (λ c κs. search rules) (λ c κs. search rules) (λ c κs. search rules)
     (λ c κs. search rules) (λ c κs. search rules) (λ c κs. search rules) (λ c κs. search rules) (λ c κs. search rules)
     (λ c κs. search rules) (λ c κs. search rules) (λ c κs. search rules) (λ c κs. search rules) (λ c κs. search rules)

@@ -17,5 +17,5 @@ returns-2 c =
     let list = c.before.before.before.args.owners.now in
     sym (get_or-eq_default list 1 (omega arith))
 
-pub owner-of-spec : {M : Type 1} → statement M
-owner-of-spec = tie.close (tie.spec (λ c κs. search rules) (λ c. search rules) returns returns-2)
+pub owner_of_spec : {M : Type 1} → statement M
+owner_of_spec = tie.close (tie.spec (λ c κs. search rules) (λ c. search rules) returns returns-2)

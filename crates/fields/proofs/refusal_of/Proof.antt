@@ -20,5 +20,5 @@ returns-2 : tie.Need-returns-2
 unfolding refusal_of
 returns-2 c = rw (class-rest c.before.before.args.class (search rules))
 
-pub refusal-of-spec : {M : Type 1} → statement M
-refusal-of-spec = tie.close (tie.spec (λ c κs. search rules) (λ c. search rules) returns returns-2)
+pub refusal_of_spec : {M : Type 1} → statement M
+refusal_of_spec = tie.close (tie.spec (λ c κs. search rules) (λ c. search rules) returns returns-2)

@@ -11,6 +11,6 @@ returns-2 c =
     let list = c.before.before.before.args.types.now in
     sym (get_or-eq_default list 0 (omega arith))
 
-pub type-of-spec : {M : Type 1} → statement M
-type-of-spec =
+pub type_of_spec : {M : Type 1} → statement M
+type_of_spec =
     tie.close (tie.spec (λ c κs. search rules) (λ c. search rules) (λ c. rw c.before.before.index.ensures.0) returns-2)

@@ -11,5 +11,5 @@ use Rattle.host.proofs.guest_key.Tie as tie
 returns : tie.Need-returns
 returns c = (refl, class-key (get_or c.before.args.host.now 16 0 % 8) (omega arith))
 
-pub guest-key-spec : {M : Type 1} → statement M
-guest-key-spec = tie.close (tie.spec (λ c. search rules) (λ c. search rules) (λ c. search rules) returns)
+pub guest_key_spec : {M : Type 1} → statement M
+guest_key_spec = tie.close (tie.spec (λ c. search rules) (λ c. search rules) (λ c. search rules) returns)

@@ -25,7 +25,7 @@ returns-3 c =
     let h = c.before.before.if2.false in
     rw (le-ltb c.before.before.before.before.args.key inside (omega arith), le-ltb c.before.before.before.before.args.key outside h) c.without.ensures
 
-pub names-spec : {M : Type 1} → statement M
-names-spec =
+pub names_spec : {M : Type 1} → statement M
+names_spec =
     tie.close (tie.spec single-requires returns (λ c. search rules) (λ c. search rules)
     (λ c. search rules) (λ c. search rules) returns-2 (λ c. search rules) (λ c. search rules) (λ c. search rules) element (λ c κs. search rules) returns-3)

@@ -20,8 +20,8 @@ decreases-loop fd buf₀ done₀ buf done = length buf - done
 brought : (c : tie.After-got invariant-loop decreases-loop) → c.got.given.0.0 ≤ length c.before.before.before.before.read_Some.new.1.0
 brought c = (read-within _ _ _ c.got.given.1 c.before.before.before.before.read_Some.ensures).0
 
-pub read-all-spec : {M : Type 1} → statement M
-read-all-spec =
+pub read_all_spec : {M : Type 1} → statement M
+read_all_spec =
     tie.close (tie.spec invariant-loop decreases-loop (λ c. search rules) (λ c. search rules) (λ c. search rules) (λ c. search rules)
     (λ c κs. search rules) (λ c. search rules) (λ c. search rules) (λ c. prefix_len_of_le _ _ (search rules))
     (λ c. omega (arith, brought c.before.before)) (λ c. search rules)

@@ -11,8 +11,8 @@ invariant-loop fd rest₀ tries₀ rest tries = length rest ≡ length rest₀
 abbrev decreases-loop : tie.decreases-loop
 decreases-loop fd rest₀ tries₀ rest tries = tries
 
-pub read-some-spec : {M : Type 1} → statement M
-read-some-spec =
+pub read_some_spec : {M : Type 1} → statement M
+read_some_spec =
     tie.close (tie.spec invariant-loop decreases-loop (λ c. search rules) (λ c κs. search rules) (λ c κs. search rules) (λ c. search rules)
     (λ c. search rules) (λ c κs. search rules) (λ c κs. search rules) (λ c. search rules) (λ c. search rules) (λ c. search rules)
     (λ c. search rules) (λ c. search rules) (λ c. search rules) (λ c. search rules))

@@ -8,5 +8,5 @@ returns c =
     let include = c.before.before in
     rw (include.before.before.row.ensures.0, include.before.thrown.ensures.0) at include.include.ensures
 
-pub catch-spec : {M : Type 1} → statement M
-catch-spec = tie.close (tie.spec (λ c κs. search rules) (λ c κs. search rules) (λ c κs. search rules) (λ c. search rules) returns)
+pub catch_spec : {M : Type 1} → statement M
+catch_spec = tie.close (tie.spec (λ c κs. search rules) (λ c κs. search rules) (λ c κs. search rules) (λ c. search rules) returns)

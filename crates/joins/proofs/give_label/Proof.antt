@@ -8,5 +8,5 @@ returns c =
     let give = c.before.before in
     rw give.before.row.ensures.0 at give.give.ensures
 
-pub give-label-spec : {M : Type 1} → statement M
-give-label-spec = tie.close (tie.spec (λ c κs. search rules) (λ c κs. search rules) (λ c. search rules) returns)
+pub give_label_spec : {M : Type 1} → statement M
+give_label_spec = tie.close (tie.spec (λ c κs. search rules) (λ c κs. search rules) (λ c. search rules) returns)

@@ -11,5 +11,5 @@ returns c =
     let apart = made.before.before.before.requires.0.apart in
     used-then apart made.give-label.ensures (used-since (λ r l h. h) set.set-property.ensures)
 
-pub make-function-spec : {M : Type 1} → statement M
-make-function-spec = tie.close (tie.spec (λ c κs. search rules) (λ c κs. search rules) (λ c. search rules) returns)
+pub make_function_spec : {M : Type 1} → statement M
+make_function_spec = tie.close (tie.spec (λ c κs. search rules) (λ c κs. search rules) (λ c. search rules) returns)

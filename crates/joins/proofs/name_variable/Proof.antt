@@ -14,5 +14,5 @@ returns c =
     let same = c.before.before in
     rw (same.before.before.row.ensures.0, same.before.property.ensures.0) at same.same.ensures
 
-pub name-variable-spec : {M : Type 1} → statement M
-name-variable-spec = tie.close (tie.spec (λ c κs. search rules) (λ c κs. search rules) same-requires (λ c. search rules) returns)
+pub name_variable_spec : {M : Type 1} → statement M
+name_variable_spec = tie.close (tie.spec (λ c κs. search rules) (λ c κs. search rules) same-requires (λ c. search rules) returns)

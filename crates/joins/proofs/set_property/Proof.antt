@@ -8,5 +8,5 @@ returns c =
     let give = c.before.before in
     rw give.before.property.ensures.0 at give.give.ensures
 
-pub set-property-spec : {M : Type 1} → statement M
-set-property-spec = tie.close (tie.spec (λ c κs. search rules) (λ c κs. search rules) (λ c. search rules) returns)
+pub set_property_spec : {M : Type 1} → statement M
+set_property_spec = tie.close (tie.spec (λ c κs. search rules) (λ c κs. search rules) (λ c. search rules) returns)

@@ -8,5 +8,5 @@ returns c =
     let include = c.before.before in
     rw (include.before.before.thrown.ensures.0, include.before.row.ensures.0) at include.include.ensures
 
-pub throw-spec : {M : Type 1} → statement M
-throw-spec = tie.close (tie.spec (λ c κs. search rules) (λ c κs. search rules) (λ c κs. search rules) (λ c. search rules) returns)
+pub throw_spec : {M : Type 1} → statement M
+throw_spec = tie.close (tie.spec (λ c κs. search rules) (λ c κs. search rules) (λ c κs. search rules) (λ c. search rules) returns)

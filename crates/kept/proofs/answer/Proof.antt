@@ -19,7 +19,7 @@ returns c =
 returns-2 : tie.Need-returns-2
 returns-2 c = record { joined = c.before.before.before.union.ensures; left = inl refl }
 
-pub answer-spec : {M : Type 1} → statement M
-answer-spec =
+pub answer_spec : {M : Type 1} → statement M
+answer_spec =
     tie.close (tie.spec (λ c κs. search rules) (λ c κs. search rules) keep-requires returns returns-2
     (λ c. record { joined = c.before.union.ensures; left = inl refl }))

@@ -42,8 +42,8 @@ returns-4 c =
     let else1 = c.before.before.before.before.before.before.before.before.before.before in
     (all (λ _. else1.before.is-kept.ensures (not-false _ else1.if1.false)) else1.before.before.none.ensures refl, never)
 
-pub ask-spec : {M : Type 1} → statement M
-ask-spec =
+pub ask_spec : {M : Type 1} → statement M
+ask_spec =
     tie.close (tie.spec (λ c κs. search rules) (λ c κs. search rules) (λ c. (all never c.before.before.none.ensures refl, never))
     (λ c κs. c.before.is-kept.ensures (not-false _ c.if1.false)) with-of-requires (λ c κs. search rules) (λ c κs. search rules)
     (λ c κs. search rules) returns-2 (λ c κs. search rules) returns-3 (λ c κs. search rules) (λ c κs. search rules) returns-4)

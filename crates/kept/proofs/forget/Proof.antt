@@ -5,8 +5,8 @@ use Rattle.kept.proofs.Remembers.{remembers-forgets, first_fits, small-room, for
 use Rattle.kept.proofs.forget.Statement.{statement}
 use Rattle.kept.proofs.forget.Tie as tie
 
-pub forget-spec : {M : Type 1} → statement M
-forget-spec =
+pub forget_spec : {M : Type 1} → statement M
+forget_spec =
     tie.close (tie.spec (λ c κs. (search rules, first_fits c.before.args.wide))
     (λ c κs. (omega arith, omega (arith, small-room c.before.before.before.before.args.wide c.before.if1.true)))
     (λ c o p old t. search (rules, remembers-forgets, forgets-names))

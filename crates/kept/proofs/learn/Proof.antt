@@ -40,8 +40,8 @@ returns-4 c =
     let else1 = else3.before.before.before.before in
     learns-anew (else1.before.is-kept.ensures (not-false _ else1.if1.false)) else3.if3.false c.keep2.ensures
 
-pub learn-spec : {M : Type 1} → statement M
-learn-spec =
+pub learn_spec : {M : Type 1} → statement M
+learn_spec =
     tie.close (tie.spec (λ c κs. search rules) (λ c κs. search rules) (λ c. same refl) (λ c. same refl) set-of-requires
     with-of-requires (λ c κs. search rules) (λ c κs. search rules) keep-requires returns-3 (λ c κs. search rules) keep-requires-2
     returns-4 (λ c. same refl))

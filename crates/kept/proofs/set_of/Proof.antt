@@ -18,5 +18,5 @@ row-requires c κs =
     let h = row_fits a.args.wide a.args.pair (2 * a.args.pair) a.requires (omega arith) in
     search rules
 
-pub set-of-spec : {M : Type 1} → statement M
-set-of-spec = tie.close (tie.spec mul-row row-requires (λ c. search rules))
+pub set_of_spec : {M : Type 1} → statement M
+set_of_spec = tie.close (tie.spec mul-row row-requires (λ c. search rules))

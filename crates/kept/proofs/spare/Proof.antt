@@ -14,6 +14,6 @@ returns c =
     spares-held within.before.before.requires set.set-of.ensures within.before.with-of.ensures within.is_Within.ensures.0 then.if1.true
     c.without.ensures
 
-pub spare-spec : {M : Type 1} → statement M
-spare-spec =
+pub spare_spec : {M : Type 1} → statement M
+spare_spec =
     tie.close (tie.spec (λ c κs. search rules) (λ c κs. search rules) (λ c κs. search rules) (λ c κs. search rules) returns (λ c. whole refl))

@@ -17,6 +17,6 @@ returns-3 c =
     let h = key-name c.before.before.args.key c.before.before.requires (omega arith) in
     (slot-stored-name _ (omega arith) (omega arith) (omega arith), omega arith)
 
-pub stored-pair-spec : {M : Type 1} → statement M
-stored-pair-spec =
+pub stored_pair_spec : {M : Type 1} → statement M
+stored_pair_spec =
     tie.close (tie.spec (λ c. search rules) (λ c. search rules) returns (λ c. search rules) (λ c. search rules) returns-2 (λ c. search rules) returns-3)

@@ -20,7 +20,7 @@ returns-5 c =
     let h = key-name c.before.before.before.before.args.key c.before.before.before.before.requires (omega arith) in
     (slot-under-name _ (omega arith) (omega arith) (omega arith), omega arith)
 
-pub under-pair-spec : {M : Type 1} → statement M
-under-pair-spec =
+pub under_pair_spec : {M : Type 1} → statement M
+under_pair_spec =
     tie.close (tie.spec (λ c. search rules) (λ c. search rules) returns (λ c. search rules) (λ c. search rules) returns-2
     (λ c. search (rules, slot-under-name)) (λ c. search rules) returns-4 (λ c. search rules) returns-5)

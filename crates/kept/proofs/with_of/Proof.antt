@@ -24,5 +24,5 @@ row-requires c κs =
     let h = row_fits a.args.wide a.args.pair (2 * a.args.pair + 1) a.requires (omega arith) in
     search rules
 
-pub with-of-spec : {M : Type 1} → statement M
-with-of-spec = tie.close (tie.spec mul-row add_row row-requires (λ c. search rules))
+pub with_of_spec : {M : Type 1} → statement M
+with_of_spec = tie.close (tie.spec mul-row add_row row-requires (λ c. search rules))

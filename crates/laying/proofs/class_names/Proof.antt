@@ -25,7 +25,7 @@ loop-again c =
 returns : tie.Need-returns invariant-loop decreases-loop
 returns c = let e : c.before.loop.n ≡ 32 = omega arith in rw e at c.before.loop.invariant.1
 
-pub class-names-spec : {M : Type 1} → statement M
-class-names-spec =
+pub class_names_spec : {M : Type 1} → statement M
+class_names_spec =
     tie.close (tie.spec invariant-loop decreases-loop (λ c. (search rules, holds-none _)) (λ c. search rules) (λ c κs. search rules)
     (λ c κs. search rules) (λ c. search rules) (λ c. search rules) loop-again returns)

@@ -10,5 +10,5 @@ returns c = rw (lt-ltb c.before.args.profile 8 (search rules))
 returns-2 : tie.Need-returns-2
 returns-2 c = rw (le-ltb c.before.args.profile 8 (search rules))
 
-pub class-of-spec : {M : Type 1} → statement M
-class-of-spec = tie.close (tie.spec returns returns-2)
+pub class_of_spec : {M : Type 1} → statement M
+class_of_spec = tie.close (tie.spec returns returns-2)

@@ -60,6 +60,6 @@ returns c =
     let start = c.before.before.before.before.before.before.before.before in
     collected-all (five-labels start.args.wide) (most-labels start.args.wide) start.requires.0 l.invariant.0 c.loop-test.false l.invariant.1
 
-pub collect-spec : {M : Type 1} → statement M
-collect-spec =
+pub collect_spec : {M : Type 1} → statement M
+collect_spec =
     tie.close (tie.spec invariant-loop decreases-loop mark-requires loop-holds collect-at-requires after-requires loop-less loop-again returns)

@@ -23,7 +23,7 @@ shared-slice-read-v c =
 returns : tie.Need-returns
 returns c = (λ _. c.mark.ensures, λ d. absurd (d (search rules)))
 
-pub collect-at-spec : {M : Type 1} → statement M
-collect-at-spec =
+pub collect_at_spec : {M : Type 1} → statement M
+collect_at_spec =
     tie.close (tie.spec (λ c. search rules) (λ c. search rules) shared-slice-read-k (λ c. search rules) shared-slice-read-v
     (λ c κs. search rules) returns (λ c. (λ e. absurd (c.if1.false e), λ _. refl)))

@@ -38,8 +38,8 @@ returns c =
     let e : r.l ≡ labels c.before.before.before.before.args.wide = omega arith in
     rw e at r.invariant.1
 
-pub labels-with-spec : {M : Type 1} → statement M
-labels-with-spec =
+pub labels_with_spec : {M : Type 1} → statement M
+labels_with_spec =
     tie.close (tie.spec invariant-loop decreases-loop (λ c κs. search rules) (λ c κs. search rules)
     (λ c. (search rules, rw c.none.ensures (holds-none _))) (λ c. search rules) (λ c κs. search rules) (λ c κs. search rules)
     (λ c κs. search rules) (λ c. search rules) (λ c. search rules) loop-again returns)

@@ -19,7 +19,7 @@ returns c p t f m k =
     second.before.before.labels-with2.ensures first.write.ensures second.write2.ensures named.lay-names.ensures.0 (omega (arith, named.lay-names.ensures.1))
     c.class_of.ensures p m t f k
 
-pub lay-spec : {M : Type 1} → statement M
-lay-spec =
+pub lay_spec : {M : Type 1} → statement M
+lay_spec =
     tie.close (tie.spec (λ c κs. search rules) (λ c κs. row_fits c.before.before.args.wide 0 _ (search rules))
     (λ c κs. search rules) write-requires-2 (λ c κs. search rules) (λ c κs. search rules) (λ c. search rules) returns)

@@ -23,7 +23,7 @@ loop-again c =
 returns : tie.Need-returns invariant-loop decreases-loop
 returns c = let e : c.before.loop.c ≡ 8 = omega arith in (rw e at c.before.loop.invariant.2, c.before.loop.invariant.1)
 
-pub lay-names-spec : {M : Type 1} → statement M
-lay-names-spec =
+pub lay_names_spec : {M : Type 1} → statement M
+lay_names_spec =
     tie.close (tie.spec invariant-loop decreases-loop (λ c. (search rules, search rules, classes-none _ _)) (λ c κs. search rules)
     (λ c. search rules) (λ c. search rules) (λ c. search rules) (λ c. search rules) (λ c. search rules) loop-again returns)

@@ -40,7 +40,7 @@ high_digit k l h = let e : 16 + (k - 16) ≡ k = omega arith in rw e at (agree_a
 returns-2 : tie.Need-returns-2
 returns-2 c = high_digit c.before.before.args.kind (search rules) (search rules)
 
-pub body-length-spec : {M : Type 1} → statement M
-body-length-spec =
+pub body_length_spec : {M : Type 1} → statement M
+body_length_spec =
     tie.close (tie.spec (λ c. search rules) (λ c. search rules) (λ c. low_digit c.before.args.kind (search rules))
     (λ c. search rules) (λ c. search rules) returns-2 (λ c. sym (no_kind c.before.before.args.kind (search rules))))

@@ -3,5 +3,5 @@ use mathlib.Core.Path.{refl}
 use Rattle.layout.proofs.classes.Statement.{statement}
 use Rattle.layout.proofs.classes.Tie as tie
 
-pub classes-spec : {M : Type 1} → statement M
-classes-spec = tie.close (tie.spec (λ c. refl))
+pub classes_spec : {M : Type 1} → statement M
+classes_spec = tie.close (tie.spec (λ c. refl))

@@ -5,6 +5,6 @@ use Rattle.layout.proofs.Keys.{key-low, key-high}
 use Rattle.layout.proofs.is_key.Statement.{statement}
 use Rattle.layout.proofs.is_key.Tie as tie
 
-pub is-key-spec : {M : Type 1} → statement M
-is-key-spec =
+pub is_key_spec : {M : Type 1} → statement M
+is_key_spec =
     tie.close (tie.spec (λ c. sym (key-low c.before.args.b (search rules))) (λ c. sym (key-high c.before.args.b (search rules))))

@@ -33,7 +33,7 @@ returns-3 c =
     (number_lt _ _ _ (λ i. (known.slice-known.given i).fits)) (lacks-some _ {old = number (words a.wide) a.t.now (a.o + words a.wide * a.r)} row.row.ensures within.is_Within.ensures.0 union.before.if2.false)
     (rw (union.union.ensures, row.row.ensures) at write.write.ensures)
 
-pub join-spec : {M : Type 1} → statement M
-join-spec =
+pub join_spec : {M : Type 1} → statement M
+join_spec =
     tie.close (tie.spec returns (λ c κs. search rules) (λ c κs. search rules) (λ c. search rules) returns-2 (λ c κs. search rules)
     (λ c κs. search rules) (λ c. search rules) returns-3)

@@ -20,7 +20,7 @@ returns c =
     (row_is a.wide 0 a.t.now chain.chain.result chain.chain.ensures.1 row.row.ensures) (told.told-chains.ensures p)
     first.first_on.ensures union.union.ensures join.join.ensures
 
-pub chain-line-spec : {M : Type 1} → statement M
-chain-line-spec =
+pub chain_line_spec : {M : Type 1} → statement M
+chain_line_spec =
     tie.close (tie.spec (λ c κs. search rules) (λ c κs. search (rules, row_read, read-room)) (λ c κs. search rules)
     (λ c κs. search rules) (λ c κs. search rules) (λ c κs. search (rules, row_fits)) (λ c. search rules) returns)

@@ -49,7 +49,7 @@ returns c =
     let e : loop.loop.l ≡ labels wide = omega (arith, loop.loop.invariant.1, c.loop-test.false, count.labels.ensures.0) in
     λ p f. rw (← e) (loop.loop.invariant.2 p f)
 
-pub chain-lines-spec : {M : Type 1} → statement M
-chain-lines-spec =
+pub chain_lines_spec : {M : Type 1} → statement M
+chain_lines_spec =
     tie.close (tie.spec invariant-loop decreases-loop (λ c κs. search rules) (λ c. search (rules, lines_none)) declared-line-requires
     (λ c. search rules) (λ c. search rules) loop-again (λ c. search rules) returns)

@@ -21,7 +21,7 @@ returns-2 c =
     let a = start.args in
     λ p e. type-chain a.types.now (get_or a.types.now a.l 0) a.l start.requires.1 e refl other.if1.false (line.chain-line.ensures p)
 
-pub declared-line-spec : {M : Type 1} → statement M
-declared-line-spec =
+pub declared_line_spec : {M : Type 1} → statement M
+declared_line_spec =
     tie.close (tie.spec (λ c. omega (arith, labels-small c.before.args.wide, c.before.requires.1))
     (λ c p e. search (rules, no-chain)) cast-t10 (λ c κs. search rules) (λ c. search rules) returns-2)

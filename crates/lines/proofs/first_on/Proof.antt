@@ -15,7 +15,7 @@ returns c =
     on-first (value a.wide c.union.result) a.l.0 parent.parent_of.result.0 (parents_of a.kind)
     (rw (own.single.ensures, second.single2.ensures) at c.union.ensures) parent.parent_of.ensures.0
 
-pub first-on-spec : {M : Type 1} → statement M
-first-on-spec =
+pub first_on_spec : {M : Type 1} → statement M
+first_on_spec =
     tie.close (tie.spec (λ c κs. search rules) (λ c κs. search rules) (λ c κs. search (rules, low-label)) (λ c κs. search rules)
     returns)

@@ -14,7 +14,7 @@ returns c =
     let a = chain.before.before.args in
     guest-used a.g.0 (1 ∷ 2 ∷ 4 ∷ []) chain.chain.ensures.0 chain.chain.ensures.1 all.prototypes.ensures join.join.ensures
 
-pub guest-line-spec : {M : Type 1} → statement M
-guest-line-spec =
+pub guest_line_spec : {M : Type 1} → statement M
+guest_line_spec =
     tie.close (tie.spec (λ c κs. search rules) (λ c κs. search rules) (λ c κs. search (rules, row_fits)) (λ c. search rules)
     returns)

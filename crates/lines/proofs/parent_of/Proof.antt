@@ -6,7 +6,7 @@ use Rattle.lines.proofs.Lines.{parents-other}
 use Rattle.lines.proofs.parent_of.Statement.{statement}
 use Rattle.lines.proofs.parent_of.Tie as tie
 
-pub parent-of-spec : {M : Type 1} → statement M
-parent-of-spec =
+pub parent_of_spec : {M : Type 1} → statement M
+parent_of_spec =
     tie.close (tie.spec (λ c. (ap parents_of c.if1.true, search rules)) (λ c. (ap parents_of c.if2.true, search rules))
     (λ c. search (rules, parents-other)))

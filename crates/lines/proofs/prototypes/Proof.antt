@@ -16,8 +16,8 @@ returns c =
     on-three (value a.wide c.union2.result) 1 2 4
     (rw (first.single.ensures, others.union.ensures, second.single2.ensures, third.single3.ensures) at c.union2.ensures)
 
-pub prototypes-spec : {M : Type 1} → statement M
-prototypes-spec =
+pub prototypes_spec : {M : Type 1} → statement M
+prototypes_spec =
     tie.close (tie.spec (λ c κs. low-label c.args.wide (omega arith))
     (λ c κs. low-label c.before.args.wide (omega arith)) (λ c κs. low-label c.before.before.args.wide (omega arith))
     (λ c κs. search rules) (λ c κs. search rules) returns)

@@ -90,8 +90,8 @@ returns-5 c =
     (not_none empty.before.is-empty.ensures empty.if4.false some)
     )
 
-pub examine-spec : {M : Type 1} → statement M
-examine-spec =
+pub examine_spec : {M : Type 1} → statement M
+examine_spec =
     tie.close (tie.spec (λ c κs. search rules) returns (λ c κs. search rules) returns-2 lowest-gap-requires
     (λ c κs. search rules) (λ c. search rules) returns-3 (λ c κs. search rules) (λ c κs. search rules) (λ c. search rules)
     returns-4 lowest-label-requires (λ c. search rules) returns-5)

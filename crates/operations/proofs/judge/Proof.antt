@@ -62,7 +62,7 @@ returns-3 c =
       left-words a.wide xs t full ok _ (λ i. (known.slice-known2.given i).fits) s.solve.ensures,
     )
 
-pub judge-spec : {M : Type 1} → statement M
-judge-spec =
+pub judge_spec : {M : Type 1} → statement M
+judge_spec =
     tie.close (tie.spec (λ c κs. search rules) returns (λ c κs. search rules) returns-2 solve-requires
     (λ c κs. search rules) (λ c κs. search rules) (λ c κs. search rules) (λ c. search rules) returns-3)

@@ -14,5 +14,5 @@ lowest-label-requires c κs = some-held c.before.is-empty.ensures c.if1.false
 returns-2 : tie.Need-returns-2
 returns-2 c = rw (sym c.before.before.is-empty.ensures ∙ c.before.if1.false, c.lowest-label.ensures)
 
-pub judged-spec : {M : Type 1} → statement M
-judged-spec = tie.close (tie.spec (λ c κs. search rules) returns lowest-label-requires returns-2)
+pub judged_spec : {M : Type 1} → statement M
+judged_spec = tie.close (tie.spec (λ c κs. search rules) returns lowest-label-requires returns-2)

@@ -19,5 +19,5 @@ returns c =
     λ p known. applies-lines start.requires.apart (chains.chain-lines.ensures p known.typed) line.guest-line.ensures
     (said.guest.ensures p known.lays known.formals-of known.returning)
 
-pub lines-spec : {M : Type 1} → statement M
-lines-spec = tie.close (tie.spec (λ c κs. search rules) guest-line-requires (λ c κs. search rules) (λ c. search rules) returns)
+pub lines_spec : {M : Type 1} → statement M
+lines_spec = tie.close (tie.spec (λ c κs. search rules) guest-line-requires (λ c κs. search rules) (λ c. search rules) returns)

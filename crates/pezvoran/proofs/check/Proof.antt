@@ -13,5 +13,5 @@ pack-requires c κs = subst Ranged (sym c.examine.ensures) (check-ranged 64 (ome
 returns : tie.Need-returns
 returns c = c.pack.ensures ∙ ap packed c.before.examine.ensures
 
-pub check-spec : {M : Type 1} → statement M
-check-spec = tie.close (tie.spec (λ c κs. search rules) pack-requires returns)
+pub check_spec : {M : Type 1} → statement M
+check_spec = tie.close (tie.spec (λ c κs. search rules) pack-requires returns)

@@ -11,5 +11,5 @@ returns c =
     let a = c.before.before.before.before.before.args in
     c.before.examine.ensures ∙ ap (check_outcome 64 a.file.now) (rows-one a.table.now)
 
-pub examine-spec : {M : Type 1} → statement M
-examine-spec = tie.close (tie.spec (λ c. search rules) (λ c κs. search rules) returns)
+pub examine_spec : {M : Type 1} → statement M
+examine_spec = tie.close (tie.spec (λ c. search rules) (λ c κs. search rules) returns)

@@ -24,5 +24,5 @@ returns c =
       j.1 ∙ words-one a.file.now a.table.now (λ i. (known.slice-known.given i).fits),
     )
 
-pub verdict-spec : {M : Type 1} → statement M
-verdict-spec = tie.close (tie.spec (λ c κs. search rules) pack-requires (λ c. search rules) returns)
+pub verdict_spec : {M : Type 1} → statement M
+verdict_spec = tie.close (tie.spec (λ c κs. search rules) pack-requires (λ c. search rules) returns)

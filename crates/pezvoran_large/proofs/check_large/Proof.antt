@@ -13,5 +13,5 @@ pack-requires c κs = subst Ranged (sym c.examine.ensures) (check-ranged 256 (om
 returns : tie.Need-returns
 returns c = c.pack.ensures ∙ ap packed c.before.examine.ensures
 
-pub check-large-spec : {M : Type 1} → statement M
-check-large-spec = tie.close (tie.spec (λ c κs. search rules) pack-requires returns)
+pub check_large_spec : {M : Type 1} → statement M
+check_large_spec = tie.close (tie.spec (λ c κs. search rules) pack-requires returns)

@@ -15,5 +15,5 @@ returns c =
     let j = c.before.before.before.judge.ensures in
     (c.pack.ensures ∙ ap packed j.0, j.1)
 
-pub verdict-large-spec : {M : Type 1} → statement M
-verdict-large-spec = tie.close (tie.spec (λ c κs. search rules) pack-requires (λ c. search rules) returns)
+pub verdict_large_spec : {M : Type 1} → statement M
+verdict_large_spec = tie.close (tie.spec (λ c κs. search rules) pack-requires (λ c. search rules) returns)

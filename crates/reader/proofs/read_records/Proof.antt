@@ -203,8 +203,8 @@ returns-6 c =
     let a = here-bad-record (here b) (fields-all f) _ (sym c.before.take.ensures.0) c.if7.true in
     (a.sheet-same, (a.refusal-same, a.position-same))
 
-pub read-records-spec : {M : Type 1} → statement M
-read-records-spec =
+pub read_records_spec : {M : Type 1} → statement M
+read_records_spec =
     tie.close (tie.spec invariant-fields decreases-fields invariant-records decreases-records (λ c κs. search rules) (λ c κs. search rules)
     (λ c κs. search rules) (λ c. (refl, search rules, rw c.fresh.ensures (on-start _ _))) (λ c. search rules) cast-k
     (λ c. search rules) (λ c. search rules) (λ c. search rules) (λ c. search rules) (λ c. search rules) (λ c. search rules)

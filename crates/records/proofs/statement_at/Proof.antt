@@ -22,7 +22,7 @@ returns c =
     rw (slice-body a.file.now a.at c.before.before.before.after.result c.before.before.before.after.ensures) at
     c.statement-of.ensures
 
-pub statement-at-spec : {M : Type 1} → statement M
-statement-at-spec =
+pub statement_at_spec : {M : Type 1} → statement M
+statement_at_spec =
     tie.close (tie.spec (λ c κs. search rules) (λ c. search rules) (λ c. search rules) (λ c. search rules) (λ c. search rules)
     part-statement-of-end statement-of-requires returns)

@@ -24,8 +24,8 @@ returns-16 : tie.Need-returns-16
 unfolding statements_of
 returns-16 c = (λ p. search (rules, ne_eqb), tt)
 
-pub statement-of-spec : {M : Type 1} → statement M
-statement-of-spec =
+pub statement_of_spec : {M : Type 1} → statement M
+statement_of_spec =
     tie.close (tie.spec (λ c κs. search rules) (λ c κs. search rules) (λ c κs. search rules) (λ c κs. search rules)
     (λ c κs. search rules) (λ c κs. search rules) (λ c κs. search rules) (λ c κs. search rules) (λ c κs. search rules)
     (λ c κs. search rules) (λ c κs. search rules) (λ c κs. search rules) (λ c κs. search rules) (λ c κs. search rules)

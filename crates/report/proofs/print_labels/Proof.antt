@@ -17,7 +17,7 @@ cast-label c = omega (arith, c.before.before.labels.ensures.1)
 has-requires : tie.Need-has-requires invariant-loop decreases-loop
 has-requires c κs = omega (arith, c.before.before.labels.ensures.0)
 
-pub print-labels-spec : {M : Type 1} → statement M
-print-labels-spec =
+pub print_labels_spec : {M : Type 1} → statement M
+print_labels_spec =
     tie.close (tie.spec invariant-loop decreases-loop (λ c κs. search rules) (λ c. search rules) cast-label has-requires (λ c κs. search rules)
     (λ c. search rules) (λ c. search rules) (λ c. search rules) (λ c. search rules) (λ c. search rules))

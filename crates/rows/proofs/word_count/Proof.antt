@@ -10,5 +10,5 @@ returns c = words-wide _ c.before.if1.true c.row_count.ensures.0
 returns-2 : tie.Need-returns-2
 returns-2 c = words-narrow _ c.before.if1.false c.row-count2.ensures.0
 
-pub word-count-spec : {M : Type 1} → statement M
-word-count-spec = tie.close (tie.spec (λ c κs. search rules) (λ c. search rules) (λ c κs. search rules) returns returns-2)
+pub word_count_spec : {M : Type 1} → statement M
+word_count_spec = tie.close (tie.spec (λ c κs. search rules) (λ c. search rules) (λ c κs. search rules) returns returns-2)

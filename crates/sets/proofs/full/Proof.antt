@@ -6,5 +6,5 @@ use Rattle.sets.proofs.full.Tie as tie
 returns : tie.Need-returns
 returns c = full-on c.args.wide
 
-pub full-spec : {M : Type 1} → statement M
-full-spec = tie.close (tie.spec returns)
+pub full_spec : {M : Type 1} → statement M
+full_spec = tie.close (tie.spec returns)

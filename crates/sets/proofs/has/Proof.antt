@@ -20,7 +20,7 @@ has-requires-4 c κs = in-last c.before.before.before.before.args.wide _ c.befor
 returns-4 : tie.Need-returns-4
 returns-4 c = c.has4.ensures ∙ sym (value-bit _ _ 3 _ (search rules) (search rules) (search rules) (in-last c.before.before.before.before.before.args.wide _ c.before.before.before.before.before.requires))
 
-pub has-spec : {M : Type 1} → statement M
-has-spec =
+pub has_spec : {M : Type 1} → statement M
+has_spec =
     tie.close (tie.spec (λ c. search rules) (λ c κs. search rules) returns (λ c κs. search rules) returns-2 (λ c κs. search rules)
     returns-3 has-requires-4 returns-4)

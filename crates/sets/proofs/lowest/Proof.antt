@@ -8,5 +8,5 @@ use Rattle.sets.proofs.lowest.Tie as tie
 returns : tie.Need-returns
 returns c = taken-lowest (value-below _ _ (search rules)) c.before.next.ensures
 
-pub lowest-spec : {M : Type 1} → statement M
-lowest-spec = tie.close (tie.spec (λ c κs. search rules) returns)
+pub lowest_spec : {M : Type 1} → statement M
+lowest_spec = tie.close (tie.spec (λ c κs. search rules) returns)

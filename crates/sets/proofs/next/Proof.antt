@@ -21,8 +21,8 @@ next-requires-4 c κs =
 returns-4 : tie.Need-returns-4
 returns-4 c = rw c.label4.ensures (next-d _ _ _ _ (search rules) (search rules) (search rules) (search rules) (search rules) c.before.before.next4.ensures)
 
-pub next-spec : {M : Type 1} → statement M
-next-spec =
+pub next_spec : {M : Type 1} → statement M
+next_spec =
     tie.close (tie.spec (λ c κs. search rules) (λ c κs. search rules) returns (λ c κs. search rules) (λ c. search rules)
     (λ c κs. search rules) returns-2 (λ c κs. search rules) (λ c. search rules) (λ c κs. search rules) returns-3 next-requires-4
     (λ c. search rules) (λ c κs. search rules) returns-4)

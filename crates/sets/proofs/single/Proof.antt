@@ -19,7 +19,7 @@ single-requires-4 c κs = in-last c.before.before.before.before.args.wide _ c.be
 returns-4 : tie.Need-returns-4
 returns-4 c = single-d _ _ _ (search rules) (search rules) c.single4.ensures
 
-pub single-spec : {M : Type 1} → statement M
-single-spec =
+pub single_spec : {M : Type 1} → statement M
+single_spec =
     tie.close (tie.spec (λ c. search rules) (λ c κs. search rules) returns (λ c κs. search rules) returns-2 (λ c κs. search rules)
     returns-3 single-requires-4 returns-4)

@@ -8,5 +8,5 @@ use Rattle.sets.proofs.word_size.Tie as tie
 returns : tie.Need-returns
 returns c = (c.size.ensures, omega (arith, c.size.ensures, count-le c.before.args.x 64))
 
-pub word-size-spec : {M : Type 1} → statement M
-word-size-spec = tie.close (tie.spec (λ c κs. search rules) returns)
+pub word_size_spec : {M : Type 1} → statement M
+word_size_spec = tie.close (tie.spec (λ c κs. search rules) returns)

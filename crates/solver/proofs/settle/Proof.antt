@@ -90,7 +90,7 @@ returns c =
     let start = start_of c.before in
     turned-settled start.args.file.now (fits start) start.pre.3 c.loop-test.false c.before.loop.invariant
 
-pub settle-spec : {M : Type 1} → statement M
-settle-spec =
+pub settle_spec : {M : Type 1} → statement M
+settle_spec =
     tie.close (tie.spec invariant-loop decreases-loop (λ c κs. search rules) loop-holds search-on-requires (λ c κs. search rules) pass-requires
     (λ c κs. search rules) loop-less loop-again (λ c. reached-length c.before.loop.invariant.solving.reached) returns)

@@ -25,5 +25,5 @@ returns c =
       beyond = λ i h. reached-behind settled.reached i (omega (arith, h)) ∙ cleared.beyond i h;
     }
 
-pub solve-spec : {M : Type 1} → statement M
-solve-spec = tie.close (tie.spec (λ c κs. search rules) settle-requires (λ c. search rules) returns)
+pub solve_spec : {M : Type 1} → statement M
+solve_spec = tie.close (tie.spec (λ c κs. search rules) settle-requires (λ c. search rules) returns)

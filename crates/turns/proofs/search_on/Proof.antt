@@ -121,6 +121,6 @@ loop-again c =
           (steps_on (whole.use-at.ensures.0 known) (steps-forget forget.forget-if.ensures))),
     )
 
-pub search-on-spec : {M : Type 1} → statement M
-search-on-spec =
+pub search_on_spec : {M : Type 1} → statement M
+search_on_spec =
     tie.close (tie.spec invariant-loop decreases-loop (λ c known. steps-none) index-readers-requires index-file-requires see-all-requires (λ c. (refl, λ e. omega arith, λ known. steps-none)) (λ c κs. search rules) begin-part-requires next-requires part-of-requires use-part-requires (λ c κs. search rules) use-at-requires (λ c κs. search rules) (λ c κs. search rules) (λ c κs. search (rules, room_after)) (λ c κs. search (rules, room_after)) (λ c κs. search (rules, room_after)) (λ c κs. search rules) (λ c κs. search (rules, room_after)) (λ c κs. search (rules, room_after)) add-turns (λ c κs. search rules) loop-less loop-again (λ c. c.before.loop.invariant.0) (λ c. c.before.loop.invariant.2))

@@ -48,8 +48,8 @@ gather-word-requires-4 c κs =
     let h = words-fit start.args.base then1.if1.true start.requires.1 in
     (start.requires.0, omega arith)
 
-pub gather-spec : {M : Type 1} → statement M
-gather-spec =
+pub gather_spec : {M : Type 1} → statement M
+gather_spec =
     tie.close (tie.spec (λ c κs. search rules) (λ c κs. search (rules, word_fits)) add-b gather-word-requires-2 add-c
     gather-word-requires-3 add-d gather-word-requires-4 (λ c. search (rules, added-whole, added-wide))
     (λ c. search (rules, added-whole, added-narrow)))

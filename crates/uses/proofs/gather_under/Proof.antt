@@ -15,8 +15,8 @@ invariant-loop t wide names all₀ rest₀ all rest = Adding (under_names names)
 abbrev decreases-loop : tie.decreases-loop
 decreases-loop t wide names all₀ rest₀ all rest = value wide rest
 
-pub gather-under-spec : {M : Type 1} → statement M
-gather-under-spec =
+pub gather_under_spec : {M : Type 1} → statement M
+gather_under_spec =
     tie.close (tie.spec invariant-loop decreases-loop (λ c κs. search rules) (λ c. adding-start) (λ c κs. search rules)
     (λ c κs. some_left _ c.before.is-empty.ensures c.if1.true) (λ c κs. search rules)
     (λ c κs. search (rules, names-fit)) (λ c. c.before.before.before.before.next.ensures.less)

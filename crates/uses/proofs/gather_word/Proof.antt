@@ -43,7 +43,7 @@ loop-again c =
     (turn-row a.base (row_is a.wide 0 a.t.now (a.base + next.next.result.label) inside row.row.ensures) c.union.ensures)
     loop.loop.invariant
 
-pub gather-word-spec : {M : Type 1} → statement M
-gather-word-spec =
+pub gather_word_spec : {M : Type 1} → statement M
+gather_word_spec =
     tie.close (tie.spec invariant-loop decreases-loop (λ c. adding-start) (λ c κs. search rules) add_r row-requires (λ c κs. search rules)
     (λ c. c.before.before.before.next.ensures.less) loop-again (λ c. search (rules, adding-end)))

@@ -7,5 +7,5 @@ use Rattle.words.proofs.next.Tie as tie
 returns : tie.Need-returns
 returns c = rw c.whole.ensures (next-code 64 _ c.before.ranges.x.fits c.before.requires)
 
-pub next-spec : {M : Type 1} → statement M
-next-spec = tie.close (tie.spec (λ c κs. search rules) (λ c. search rules) returns)
+pub next_spec : {M : Type 1} → statement M
+next_spec = tie.close (tie.spec (λ c κs. search rules) (λ c. search rules) returns)

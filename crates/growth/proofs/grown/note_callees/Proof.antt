@@ -12,8 +12,8 @@ invariant-loop t wide first second third fourth notes₀ l₀ l-end notes l = l 
 abbrev decreases-loop : tie.decreases-loop
 decreases-loop t wide first second third fourth notes₀ l₀ l-end notes l = l-end - l
 
-pub note-callees-spec : {M : Type 1} → statement M
-note-callees-spec =
+pub note_callees_spec : {M : Type 1} → statement M
+note_callees_spec =
     tie.close (tie.spec invariant-loop decreases-loop (λ c κs. search rules) (λ c. omega (arith, five-labels c.before.before.args.wide, c.labels.ensures)) (λ c κs. search rules) (λ c κs. search rules)
     (λ c κs. search rules) (λ c κs. search rules) (λ c. search rules) (λ c. search rules) (λ c. search rules)
     (λ c κs. search rules) (λ c κs. search rules) (λ c. search rules))

@@ -16,8 +16,8 @@ invariant-loop t wide first second third fourth all₀ rest₀ all rest =
 abbrev decreases-loop : tie.decreases-loop
 decreases-loop t wide first second third fourth all₀ rest₀ all rest = value wide rest
 
-pub gather-handed-spec : {M : Type 1} → statement M
-gather-handed-spec =
+pub gather_handed_spec : {M : Type 1} → statement M
+gather_handed_spec =
     tie.close (tie.spec invariant-loop decreases-loop (λ c κs. search rules) (λ c. adding-start) (λ c κs. search rules)
     (λ c κs. some_left _ c.before.is-empty.ensures c.if1.true) (λ c κs. search rules)
     (λ c. c.before.before.next.ensures.less) (λ c. search (rules, adding-next, turn-handed))

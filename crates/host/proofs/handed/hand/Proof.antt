@@ -30,7 +30,7 @@ returns-4 c =
     let e : f % 64 ≡ f - 192 = search rules in
     rw (le-ltb f 64 (search rules), le-ltb f 128 (search rules), le-ltb f 192 (search rules), e) c.hand-words4.ensures
 
-pub hand-spec : {M : Type 1} → statement M
-hand-spec =
+pub hand_spec : {M : Type 1} → statement M
+hand_spec =
     tie.close (tie.spec (λ c. search rules) (λ c κs. search rules) returns (λ c κs. search rules) returns-2 (λ c κs. search rules)
     returns-3 (λ c κs. search rules) returns-4)

@@ -12,8 +12,8 @@ returns c =
     let a = first.before.before.before.args in
     handing-words a.ws.now a.f first.gather-word.ensures second.gather-word2.ensures third.gather-word3.ensures c.gather-word4.ensures
 
-pub hand-words-spec : {M : Type 1} → statement M
-hand-words-spec =
+pub hand_words_spec : {M : Type 1} → statement M
+hand_words_spec =
     tie.close (tie.spec (λ c. search rules) (λ c. search rules) (λ c. search rules) (λ c κs. search rules) (λ c. search rules)
     (λ c. search rules) (λ c. search rules) (λ c κs. search rules) (λ c. search rules) (λ c. search rules) (λ c. search rules)
     (λ c κs. search rules) (λ c. search rules) (λ c. search rules) (λ c. search rules) (λ c κs. search rules) returns)

@@ -17,8 +17,8 @@ returns-4 c =
     let a = c.before.before.before.before.before.before.args in
     λ L file b h. begins-high L file a.low.now a.high.now a.at (a.at - 16384) b (omega (arith, c.before.before.before.before.if2.false)) (omega (arith, h)) (sym c.before.has2.ensures ∙ c.if5.true)
 
-pub confirmed-spec : {M : Type 1} → statement M
-confirmed-spec =
+pub confirmed_spec : {M : Type 1} → statement M
+confirmed_spec =
     tie.close (tie.spec (λ c L file b h. absurd (omega (arith, h))) (λ c. search rules) (λ c. search rules) (λ c κs. search rules)
     returns-2 (λ c L file b h. absurd (omega (arith, h))) (λ c. search rules) (λ c. search rules) (λ c κs. search rules) returns-4
     (λ c L file b h. absurd (omega (arith, h))) (λ c L file b h. absurd (omega (arith, h))))

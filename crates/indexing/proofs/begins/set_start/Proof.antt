@@ -14,7 +14,7 @@ returns-3 c =
     let q = a.at - a.half in
     λ b i h o. ⊎_elim (λ e. inl (omega (arith, e, c.before.before.before.before.if1.false))) (λ w. inr w) (one-bit-more a.starts.now q b i (rw (c.join.ensures, c.before.single.ensures) at o))
 
-pub set-start-spec : {M : Type 1} → statement M
-set-start-spec =
+pub set_start_spec : {M : Type 1} → statement M
+set_start_spec =
     tie.close (tie.spec (λ c b i h o. inr o) (λ c b i h o. inr o) (λ c. search rules) (λ c. search rules) (λ c κs. search rules)
     (λ c κs. search rules) (λ c. search rules) (λ c. search rules) returns-3)

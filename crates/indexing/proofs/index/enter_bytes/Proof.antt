@@ -12,8 +12,8 @@ invariant-loop index₀ block rest₀ index rest = Unit {0}
 abbrev decreases-loop : tie.decreases-loop
 decreases-loop index₀ block rest₀ index rest = value true rest
 
-pub enter-bytes-spec : {M : Type 1} → statement M
-enter-bytes-spec =
+pub enter_bytes_spec : {M : Type 1} → statement M
+enter_bytes_spec =
     tie.close (tie.spec invariant-loop decreases-loop (λ c. search rules) (λ c κs. search rules)
     (λ c κs. some_left _ c.before.is-empty.ensures c.if1.true) (λ c κs. search rules) (λ c. search rules)
     (λ c. search rules) (λ c κs. search rules) (λ c. search rules) (λ c. search rules) (λ c. search rules) (λ c. search rules)

@@ -9,8 +9,8 @@ invariant-loop notes₀ names block rest₀ notes rest = Unit {0}
 abbrev decreases-loop : tie.decreases-loop
 decreases-loop notes₀ names block rest₀ notes rest = rest
 
-pub enter-names-spec : {M : Type 1} → statement M
-enter-names-spec =
+pub enter_names_spec : {M : Type 1} → statement M
+enter_names_spec =
     tie.close (tie.spec invariant-loop decreases-loop (λ c. search rules) (λ c κs. search rules) (λ c. search rules) (λ c. search rules)
     (λ c. search rules) (λ c κs. search rules) (λ c. search rules) (λ c. search rules) (λ c. search rules) (λ c. search rules)
     (λ c. search rules))

@@ -47,7 +47,7 @@ loop-again c =
     let turn = c.before.before.before.before.before.before in
     (rw c.after.ensures (onward turn.before.loop.invariant.0 turn.loop-test.true), c.before.enter.ensures)
 
-pub index-file-spec : {M : Type 1} → statement M
-index-file-spec =
+pub index_file_spec : {M : Type 1} → statement M
+index_file_spec =
     tie.close (tie.spec invariant-loop decreases-loop (λ c. search rules) (λ c. search rules) loop-holds enter-requires after-requires loop-less loop-again
     (λ c. c.before.loop.invariant.1))

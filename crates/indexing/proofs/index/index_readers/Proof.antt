@@ -36,7 +36,7 @@ loop-again c =
     let turn = c.before.before.before.before.before.before.before.before.before.before in
     rw c.after.ensures (onward turn.before.loop.invariant turn.loop-test.true)
 
-pub index-readers-spec : {M : Type 1} → statement M
-index-readers-spec =
+pub index_readers_spec : {M : Type 1} → statement M
+index_readers_spec =
     tie.close (tie.spec invariant-loop decreases-loop loop-holds (λ c κs. search rules) (λ c κs. search rules) (λ c κs. search rules)
     after-requires loop-less loop-again (λ c. search rules))

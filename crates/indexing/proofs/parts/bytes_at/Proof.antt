@@ -9,7 +9,7 @@ invariant-loop file at which all₀ rest₀ all rest = Unit {0}
 abbrev decreases-loop : tie.decreases-loop
 decreases-loop file at which all₀ rest₀ all rest = rest
 
-pub bytes-at-spec : {M : Type 1} → statement M
-bytes-at-spec =
+pub bytes_at_spec : {M : Type 1} → statement M
+bytes_at_spec =
     tie.close (tie.spec invariant-loop decreases-loop (λ c κs. search rules) (λ c. search rules) (λ c κs. search rules) (λ c κs. search rules)
     (λ c κs. search rules) (λ c κs. search rules) (λ c. search rules) (λ c. search rules) (λ c. search rules))

@@ -15,7 +15,7 @@ row-requires c κs =
     let a = start.args in
     row_read a.wide c.chain.result (length a.t.now) start.requires c.chain.ensures.1
 
-pub chain-spec : {M : Type 1} → statement M
-chain-spec =
+pub chain_spec : {M : Type 1} → statement M
+chain_spec =
     tie.close (tie.spec (λ c κs. search rules) (λ c κs. search rules) (λ c κs. search rules) (λ c. search rules) chain-requires
     row-requires (λ c. search rules))

@@ -15,7 +15,7 @@ row-requires c κs =
     let a = start.args in
     row_read a.wide c.thrown.result (length a.t.now) start.requires c.thrown.ensures.1
 
-pub thrown-spec : {M : Type 1} → statement M
-thrown-spec =
+pub thrown_spec : {M : Type 1} → statement M
+thrown_spec =
     tie.close (tie.spec (λ c κs. search rules) (λ c κs. search rules) (λ c κs. search rules) (λ c. search rules) thrown-requires
     row-requires (λ c. search rules))

@@ -10,6 +10,6 @@ invariant-loop stored₀ seers l₀ stored l = l ≤ 256
 abbrev decreases-loop : tie.decreases-loop
 decreases-loop stored₀ seers l₀ stored l = 256 - l
 
-pub begin-stored-spec : {M : Type 1} → statement M
-begin-stored-spec =
+pub begin_stored_spec : {M : Type 1} → statement M
+begin_stored_spec =
     tie.close (tie.spec invariant-loop decreases-loop (λ c. search rules) (λ c. search rules) (λ c. search rules) (λ c. search rules) (λ c. search rules) (λ c. search rules) (λ c. search rules) (λ c. search rules) (λ c. search rules) (λ c. search rules))

@@ -10,6 +10,6 @@ invariant-loop t wide seers₀ at owners l₀ seers l = l ≤ 256
 abbrev decreases-loop : tie.decreases-loop
 decreases-loop t wide seers₀ at owners l₀ seers l = 256 - l
 
-pub note-seers-spec : {M : Type 1} → statement M
-note-seers-spec =
+pub note_seers_spec : {M : Type 1} → statement M
+note_seers_spec =
     tie.close (tie.spec invariant-loop decreases-loop (λ c κs. search rules) (λ c κs. search rules) (λ c. search rules) (λ c κs. search rules) (λ c κs. search rules) (λ c κs. search rules) (λ c κs. search rules) (λ c κs. search rules) (λ c κs. search rules) (λ c. search rules) (λ c. search rules) (λ c. search rules) (λ c. search rules))

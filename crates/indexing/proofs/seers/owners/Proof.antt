@@ -10,6 +10,6 @@ invariant-loop stored names all₀ l₀ all l = l ≤ 256
 abbrev decreases-loop : tie.decreases-loop
 decreases-loop stored names all₀ l₀ all l = 256 - l
 
-pub owners-spec : {M : Type 1} → statement M
-owners-spec =
+pub owners_spec : {M : Type 1} → statement M
+owners_spec =
     tie.close (tie.spec invariant-loop decreases-loop (λ c κs. search rules) (λ c. search rules) (λ c. search rules) (λ c. search rules) (λ c κs. search rules) (λ c κs. search rules) (λ c κs. search rules) (λ c κs. search rules) (λ c. search rules) (λ c. search rules) (λ c. search rules) (λ c. search rules))

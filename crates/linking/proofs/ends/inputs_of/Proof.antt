@@ -11,8 +11,8 @@ invariant-loop formals wide prim all₀ rest₀ all rest = Unit {0}
 abbrev decreases-loop : tie.decreases-loop
 decreases-loop formals wide prim all₀ rest₀ all rest = value wide rest
 
-pub inputs-of-spec : {M : Type 1} → statement M
-inputs-of-spec =
+pub inputs_of_spec : {M : Type 1} → statement M
+inputs_of_spec =
     tie.close (tie.spec invariant-loop decreases-loop (λ c κs. search rules) (λ c. search rules) (λ c κs. search rules)
     (λ c κs. some_left _ c.before.is-empty.ensures c.if1.true) (λ c κs. search rules) (λ c. search rules)
     (λ c. search rules) (λ c. search rules))

@@ -11,8 +11,8 @@ invariant-loop wide first second third fourth all₀ rest₀ all rest = Unit {0}
 abbrev decreases-loop : tie.decreases-loop
 decreases-loop wide first second third fourth all₀ rest₀ all rest = value wide rest
 
-pub returned-by-spec : {M : Type 1} → statement M
-returned-by-spec =
+pub returned_by_spec : {M : Type 1} → statement M
+returned_by_spec =
     tie.close (tie.spec invariant-loop decreases-loop (λ c κs. search rules) (λ c. search rules) (λ c κs. search rules)
     (λ c κs. some_left _ c.before.is-empty.ensures c.if1.true) (λ c κs. search rules) (λ c κs. search rules)
     (λ c. search rules) (λ c. search rules) (λ c. search rules))

@@ -10,7 +10,7 @@ invariant-loop wide t file host formals recent notes to back₀ back_end back = 
 abbrev decreases-loop : tie.decreases-loop
 decreases-loop wide t file host formals recent notes to back₀ back_end back = back_end - back
 
-pub cause-spec : {M : Type 1} → statement M
-cause-spec =
+pub cause_spec : {M : Type 1} → statement M
+cause_spec =
     tie.close (tie.spec invariant-loop decreases-loop (λ c κs. search rules) (λ c. search rules) (λ c κs. search rules) (λ c κs. search rules)
     (λ c κs. search rules) (λ c. search rules) (λ c. search rules) (λ c. search rules) (λ c. search rules) (λ c. search rules))

@@ -25,8 +25,8 @@ returns-2 c =
     call-applies s.scope.0 s.result.0 s.callee.0 s.inputs start.requires.0.apart lays held.held.ensures fs.functions-in.ensures
     (all.hand-all.ensures p formals functions) (back.hand-back.ensures p returning functions) (hurl.throw-on.ensures p)
 
-pub call-spec : {M : Type 1} → statement M
-call-spec =
+pub call_spec : {M : Type 1} → statement M
+call_spec =
     tie.close (tie.spec (λ c κs. search rules) (λ c κs. search rules) (λ c κs. search rules) (λ c. search rules)
     (λ c p lays formals returning. search (rules, calls-nothing, is_none)) (λ c κs. search rules) (λ c κs. search rules)
     throw-on-requires (λ c. search rules) returns-2)

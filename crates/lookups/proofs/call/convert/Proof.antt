@@ -58,8 +58,8 @@ returns-2 c =
     (rw none.none.ensures at (first.Told-under.ensures p lays)) (rw none.none.ensures at (second.told-under2.ensures p lays)) is-fs
     (spread.spread-inputs.ensures p formals (functions-are (value a.wide union.union.result) lays fs.functions-in.ensures)) (hurl.throw-on.ensures p)
 
-pub convert-spec : {M : Type 1} → statement M
-convert-spec =
+pub convert_spec : {M : Type 1} → statement M
+convert_spec =
     tie.close (tie.spec (λ c κs. search rules) (λ c κs. search rules) (λ c κs. search rules) (λ c κs. search rules)
     told-under-requires-2 (λ c κs. search rules) (λ c κs. search rules) (λ c κs. search rules) (λ c. search rules) returns
     spread-inputs-requires throw-on-requires (λ c. search rules) returns-2)

@@ -12,5 +12,5 @@ returns c =
     let a = c.before.before.args in
     c.meet.ensures ∙ ap (λ (x : ℕ). bit_and (value a.wide a.s) x) c.before.functions.ensures
 
-pub functions-in-spec : {M : Type 1} → statement M
-functions-in-spec = tie.close (tie.spec (λ c κs. search rules) (λ c κs. search rules) returns)
+pub functions_in_spec : {M : Type 1} → statement M
+functions_in_spec = tie.close (tie.spec (λ c κs. search rules) (λ c κs. search rules) returns)

@@ -48,7 +48,7 @@ returns c =
     let e : loop.loop.j ≡ 7 = omega (arith, loop.loop.invariant.1, c.loop-test.false) in
     λ p formals functions. rw (← e) (loop.loop.invariant.2 p formals functions)
 
-pub hand-all-spec : {M : Type 1} → statement M
-hand-all-spec =
+pub hand_all_spec : {M : Type 1} → statement M
+hand_all_spec =
     tie.close (tie.spec invariant-loop decreases-loop (λ c. (refl, omega arith, λ p formals functions. hands_none _ _)) (λ c κs. search rules)
     hand-over-requires (λ c. search rules) (λ c. search rules) loop-again (λ c. search rules) returns)

@@ -14,7 +14,7 @@ returns-2 c =
     let a = start.args in
     λ p formals functions. hands-over (value a.wide a.fs) a.v.0 a.j start.requires.0.apart held.held.ensures (spread.spread-inputs.ensures p formals functions)
 
-pub hand-over-spec : {M : Type 1} → statement M
-hand-over-spec =
+pub hand_over_spec : {M : Type 1} → statement M
+hand_over_spec =
     tie.close (tie.spec (λ c κs. search rules) (λ c κs. search rules) (λ c. search rules)
     (λ c p formals functions. search (rules, hands-nothing, is_none)) (λ c κs. search rules) (λ c. search rules) returns-2)

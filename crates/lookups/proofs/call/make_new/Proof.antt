@@ -20,5 +20,5 @@ returns c =
     new-applies s.scope.0 s.result.0 s.callee.0 s.inputs.this.0 start.args.l.0 (arguments s.inputs) start.requires.0.apart
     (made.make-object.ensures p lays) (called.call.ensures p lays formals returning)
 
-pub make-new-spec : {M : Type 1} → statement M
-make-new-spec = tie.close (tie.spec (λ c κs. search rules) call-requires (λ c. search rules) returns)
+pub make_new_spec : {M : Type 1} → statement M
+make_new_spec = tie.close (tie.spec (λ c κs. search rules) call-requires (λ c. search rules) returns)

@@ -37,7 +37,7 @@ returns c =
     (rw row.row.ensures.0 at give.give.ensures) same.copy.ensures held.held.ensures (told.told-chains.ensures p)
     (rw chain.chain.ensures.0 at (look.look_up.ensures p lays))
 
-pub make-object-spec : {M : Type 1} → statement M
-make-object-spec =
+pub make_object_spec : {M : Type 1} → statement M
+make_object_spec =
     tie.close (tie.spec (λ c κs. search rules) (λ c κs. search (rules, variable-row)) copy-requires (λ c κs. search rules)
     (λ c κs. search rules) (λ c κs. search rules) look-up-requires (λ c. search rules) returns)

@@ -31,7 +31,7 @@ returns c =
       join.join.ensures.same_length,
     )
 
-pub load-part-spec : {M : Type 1} → statement M
-load-part-spec =
+pub load_part_spec : {M : Type 1} → statement M
+load_part_spec =
     tie.close (tie.spec (λ c κs. search rules) (λ c κs. search rules) (λ c κs. search (rules, labels-some))
     (λ c κs. search rules) (λ c κs. search rules) (λ c κs. search rules) (λ c κs. search rules) join-requires (λ c. search rules) returns)

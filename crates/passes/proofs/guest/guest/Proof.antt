@@ -69,7 +69,7 @@ returns c =
     applies-same (every (take 8 (guest_list p key.result prototyped.result))) _ (sym (guest-all p key.result prototyped.result k q))
     (rw (← e) (loop.loop.invariant.2 p lays formals returning))
 
-pub guest-spec : {M : Type 1} → statement M
-guest-spec =
+pub guest_spec : {M : Type 1} → statement M
+guest_spec =
     tie.close (tie.spec invariant-loop decreases-loop (λ c κs. search rules) (λ c κs. search rules) loop-holds statement-requires apply-requires (λ c. search rules) (λ c. search rules)
     loop-again (λ c. search rules) returns)

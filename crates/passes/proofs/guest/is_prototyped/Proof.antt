@@ -6,5 +6,5 @@ use Rattle.passes.proofs.guest.is_prototyped.Tie as tie
 returns : tie.Need-returns
 returns c = rw (c.has.ensures, c.before.names.ensures)
 
-pub is-prototyped-spec : {M : Type 1} → statement M
-is-prototyped-spec = tie.close (tie.spec (λ c κs. search rules) (λ c κs. search rules) returns)
+pub is_prototyped_spec : {M : Type 1} → statement M
+is_prototyped_spec = tie.close (tie.spec (λ c κs. search rules) (λ c κs. search rules) returns)

@@ -9,5 +9,5 @@ returns c = (λ p key. rw c.if1.true, λ wide. (three_labels wide, three_labels 
 returns-2 : tie.Need-returns-2
 returns-2 c = (λ p key. rw c.if1.false, λ wide. three_labels wide)
 
-pub made-spec : {M : Type 1} → statement M
-made-spec = tie.close (tie.spec returns returns-2)
+pub made_spec : {M : Type 1} → statement M
+made_spec = tie.close (tie.spec returns returns-2)

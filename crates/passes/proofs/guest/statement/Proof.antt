@@ -45,7 +45,7 @@ returns-8 c =
     let e = last_one c.before.args.i c.before.requires.1 (search rules) (search rules) (search rules) (search rules) (search rules) (search rules) (search rules) in
     said_at 7 (Catch label bag) e (record { rule = λ p. refl; bounded = λ wide. three_labels wide })
 
-pub statement-spec : {M : Type 1} → statement M
-statement-spec =
+pub statement_spec : {M : Type 1} → statement M
+statement_spec =
     tie.close (tie.spec (λ c κs. search rules) (λ c κs. search rules) (λ c κs. search rules) returns returns-2 returns-3 returns-4 returns-5 returns-6
     returns-7 returns-8)

@@ -62,7 +62,7 @@ returns c =
     let loop = c.before in
     λ p lays formals returning. walked_end c.loop-test.false loop.loop.invariant.1 p (lays, formals, returning)
 
-pub host-rules-spec : {M : Type 1} → statement M
-host-rules-spec =
+pub host_rules_spec : {M : Type 1} → statement M
+host_rules_spec =
     tie.close (tie.spec invariant-loop decreases-loop (λ c. (refl, walked_start c.before.before.requires.1)) statement-at-requires
     apply-requires after-requires loop-less loop-again (λ c. search rules) returns)

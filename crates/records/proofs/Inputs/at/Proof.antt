@@ -16,7 +16,7 @@ last i (suc (suc (suc (suc zero)))) a b c d e f = absurd (e refl)
 last i (suc (suc (suc (suc (suc zero))))) a b c d e f = absurd (f refl)
 last i (suc (suc (suc (suc (suc (suc j)))))) a b c d e f = refl
 
-pub at-spec : {M : Type 1} → statement M
-at-spec =
+pub at_spec : {M : Type 1} → statement M
+at_spec =
     tie.close (tie.spec (λ c. search rules) (λ c. search rules) (λ c. search rules) (λ c. search rules) (λ c. search rules)
     (λ c. search rules) (λ c. search (rules, last)))

@@ -10,6 +10,6 @@ invariant-loop wide t file host low high stored seers₀ notes₀ turn₀ seers 
 abbrev decreases-loop : tie.decreases-loop
 decreases-loop wide t file host low high stored seers₀ notes₀ turn₀ seers notes turn = 520 - turn
 
-pub scan-spec : {M : Type 1} → statement M
-scan-spec =
+pub scan_spec : {M : Type 1} → statement M
+scan_spec =
     tie.close (tie.spec invariant-loop decreases-loop (λ c. search rules) (λ c κs. search rules) (λ c. search rules) (λ c κs. search rules) (λ c. search rules) (λ c. search rules) (λ c. search rules) (λ c. search rules) (λ c. search rules))

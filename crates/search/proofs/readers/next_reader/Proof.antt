@@ -11,8 +11,8 @@ invariant-loop file low high notes₀ turn₀ notes turn = turn ≤ 520
 abbrev decreases-loop : tie.decreases-loop
 decreases-loop file low high notes₀ turn₀ notes turn = 520 - turn
 
-pub next-reader-spec : {M : Type 1} → statement M
-next-reader-spec =
+pub next_reader_spec : {M : Type 1} → statement M
+next_reader_spec =
     tie.close (tie.spec invariant-loop decreases-loop (λ c. search rules) (λ c κs. search rules) (λ c. search rules) (λ c κs. search rules)
     (λ c. c.confirmed.ensures) (λ c κs. search rules) (λ c L bytes b h. absurd (omega (arith, h))) (λ c. search rules) (λ c. search rules)
     (λ c. search rules) (λ c L bytes b h. absurd (omega (arith, h))))

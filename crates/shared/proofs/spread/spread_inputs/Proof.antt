@@ -17,7 +17,7 @@ returns c =
     (λ l r h e. e ∙ sym (formals l a.j (functions l h) start.requires.1)) (λ l r h e. e ∙ formals l a.j (functions l h) start.requires.1)
     leave.leave.ensures done.spread-input.ensures c.learn.ensures
 
-pub spread-inputs-spec : {M : Type 1} → statement M
-spread-inputs-spec =
+pub spread_inputs_spec : {M : Type 1} → statement M
+spread_inputs_spec =
     tie.close (tie.spec (λ c. search rules) (λ c κs. search rules) (λ c κs. search rules) (λ c κs. search rules)
     (λ c. search rules) returns)

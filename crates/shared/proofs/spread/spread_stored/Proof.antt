@@ -19,8 +19,8 @@ returns-2 c =
     (λ l r h. named-takes a.wide p a.key names.names.result lays k e l r) (λ l r h. takes-named a.wide p a.key names.names.result lays k e l r)
     leave.leave.ensures done.spread-under.ensures c.learn.ensures
 
-pub spread-stored-spec : {M : Type 1} → statement M
-spread-stored-spec =
+pub spread_stored_spec : {M : Type 1} → statement M
+spread_stored_spec =
     tie.close (tie.spec (λ c κs. search rules) (λ c κs. search rules) (λ c κs. search rules) (λ c κs. search rules)
     (λ c. search rules) (λ c p lays. c.before.before.spread-unkept.ensures p _ lays (search rules) (search rules)) (λ c κs. search rules)
     (λ c κs. search rules) (λ c κs. search rules) (λ c. search rules) returns-2)

@@ -31,6 +31,6 @@ returns-2 c p key lays k e =
     applies-whole (stored key) start.requires.apart (value a.wide a.s) (λ l r h. named-takes a.wide p key a.names lays k e l r)
     (λ l r h. takes-named a.wide p key a.names lays k e l r) done.spread-under2.ensures
 
-pub spread-unkept-spec : {M : Type 1} → statement M
-spread-unkept-spec =
+pub spread_unkept_spec : {M : Type 1} → statement M
+spread_unkept_spec =
     tie.close (tie.spec (λ c κs. search rules) (λ c κs. search rules) (λ c κs. search rules) (λ c. search rules) returns (λ c κs. search rules) (λ c. search rules) returns-2)

@@ -19,7 +19,7 @@ returns c =
     (applies-told handed start.requires.apart i (row_is a.wide a.o a.t.now row.row.result i have.row2.ensures) (told.told-handed.ensures p returning functions)
     join.join.ensures)
 
-pub hand-back-spec : {M : Type 1} → statement M
-hand-back-spec =
+pub hand_back_spec : {M : Type 1} → statement M
+hand_back_spec =
     tie.close (tie.spec (λ c κs. search rules) (λ c κs. search (rules, row_fits, variable-row)) (λ c κs. search rules)
     (λ c κs. search (rules, row_fits, variable-row)) (λ c. search rules) returns)

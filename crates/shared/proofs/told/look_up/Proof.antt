@@ -16,7 +16,7 @@ returns c =
     λ p lays. applies-told (under a.key) start.requires.0.apart start.requires.1
     (row_is a.wide a.o a.t.now a.y start.requires.1 row.row.ensures) (told.Told-under.ensures p lays) join.join.ensures
 
-pub look-up-spec : {M : Type 1} → statement M
-look-up-spec =
+pub look_up_spec : {M : Type 1} → statement M
+look_up_spec =
     tie.close (tie.spec (λ c κs. search (rules, row_fits)) (λ c κs. search rules) (λ c κs. search (rules, row_fits))
     (λ c. search rules) returns)

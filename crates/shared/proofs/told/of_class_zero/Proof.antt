@@ -8,5 +8,5 @@ use Rattle.shared.proofs.told.of_class_zero.Tie as tie
 returns : tie.Need-returns
 returns c e = rw c.before.names.ensures at (sym c.without.ensures ∙ eqb-true c.without.result 0 e)
 
-pub of-class-zero-spec : {M : Type 1} → statement M
-of-class-zero-spec = tie.close (tie.spec (λ c κs. refl) (λ c κs. search rules) returns)
+pub of_class_zero_spec : {M : Type 1} → statement M
+of_class_zero_spec = tie.close (tie.spec (λ c κs. refl) (λ c κs. search rules) returns)

@@ -18,7 +18,7 @@ returns c =
     (applies-told throws start.requires.0.apart thrown.thrown.ensures.1
     (row_is a.wide a.o a.t.now thrown.thrown.result thrown.thrown.ensures.1 row.row.ensures) (told.told-throws.ensures p) join.join.ensures)
 
-pub throw-on-spec : {M : Type 1} → statement M
-throw-on-spec =
+pub throw_on_spec : {M : Type 1} → statement M
+throw_on_spec =
     tie.close (tie.spec (λ c κs. search rules) (λ c κs. search (rules, row_fits)) (λ c κs. search rules)
     (λ c κs. search (rules, row_fits)) (λ c. search rules) returns)

@@ -27,7 +27,7 @@ returns-2 c =
     λ p. tellings p _ tt (λ i. slot-chains pair.chain-pair.result pair.chain-pair.ensures) (rw none.none.ensures at ask.ask.ensures.0)
     (chains-told start.args.wide p _ chain.chain.ensures.0 gather.gather.ensures) c.answer.ensures
 
-pub told-chains-spec : {M : Type 1} → statement M
-told-chains-spec =
+pub told_chains_spec : {M : Type 1} → statement M
+told_chains_spec =
     tie.close (tie.spec (λ c κs. search rules) (λ c κs. search rules) (λ c κs. search rules) returns (λ c κs. search (rules, labels-some))
     (λ c κs. search rules) (λ c κs. asks-room c.before.before.before.before.before.ask.ensures.0) returns-2)

@@ -9,7 +9,7 @@ use Rattle.shared.proofs.told.told_handed.Tie as tie
 returns-2 : tie.Need-returns-2
 returns-2 c = λ p returning functions. search (rules, tellings, slot-handed, handed-told, rest_part)
 
-pub told-handed-spec : {M : Type 1} → statement M
-told-handed-spec =
+pub told_handed_spec : {M : Type 1} → statement M
+told_handed_spec =
     tie.close (tie.spec (λ c κs. search rules) (λ c p returning functions. search (rules, tellings-known, slot-handed, c.before.before.ask.ensures.1))
     (λ c κs. search rules) (λ c κs. asks-room c.before.before.before.before.ask.ensures.0) returns-2)

@@ -14,8 +14,8 @@ returns-3 c =
     λ p lays. tellings {pair = pair.under-pair.result} p _ tt (λ i. pair.under-pair.ensures.0) ask.ask.ensures.0
     (under-told _ p _ _ lays (search rules) names.names.ensures gather.gather-under.ensures) c.answer.ensures
 
-pub told-under-spec : {M : Type 1} → statement M
-told-under-spec =
+pub told_under_spec : {M : Type 1} → statement M
+told_under_spec =
     tie.close (tie.spec (λ c κs. search rules) (λ c κs. search rules) (λ c κs. search rules) (λ c κs. search rules)
     (λ c p lays. c.told-unkept.ensures p _ lays (search rules) (search rules)) (λ c κs. search rules)
     (λ c p lays. search (rules, tellings-known, c.before.before.ask.ensures.1)) (λ c κs. search rules)

@@ -33,6 +33,6 @@ returns-2 c p key lays k e =
     tellings-whole (under key) p start.args.t.now (value start.args.wide start.args.s)
     (under-told start.args.wide p key start.args.names lays k e c.gather-under2.ensures)
 
-pub told-unkept-spec : {M : Type 1} → statement M
-told-unkept-spec =
+pub told_unkept_spec : {M : Type 1} → statement M
+told_unkept_spec =
     tie.close (tie.spec (λ c κs. search rules) (λ c κs. fits c.before.before.before.args.wide) (λ c κs. search rules) returns (λ c κs. search rules) returns-2)

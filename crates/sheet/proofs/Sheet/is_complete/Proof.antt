@@ -59,7 +59,7 @@ returns-2 c =
     let h : length (take n v.t1.types) ≤ r.l = omega (arith, cut-length n v.t1.types) in
     ap not (sym (r.invariant.1 ∙ lacking-end (take n v.t1.types) (take n v.t1.defined) r.l h))
 
-pub is-complete-spec : {M : Type 1} → statement M
-is-complete-spec =
+pub is_complete_spec : {M : Type 1} → statement M
+is_complete_spec =
     tie.close (tie.spec invariant-loop decreases-loop (λ c κs. search rules) (λ c. (search rules, refl)) (λ c. search rules) (λ c. search rules)
     (λ c κs. search rules) returns (λ c. search rules) (λ c. search rules) loop-again returns-2)

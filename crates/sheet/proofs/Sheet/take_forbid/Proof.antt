@@ -9,5 +9,5 @@ returns : tie.Need-returns
 unfolding whole_refusal misnamed twice after
 returns c = rw (c.union.ensures, c.before.single.ensures) (refl, refl)
 
-pub take-forbid-spec : {M : Type 1} → statement M
-take-forbid-spec = tie.close (tie.spec (λ c. search rules) (λ c κs. search rules) (λ c κs. search rules) returns)
+pub take_forbid_spec : {M : Type 1} → statement M
+take_forbid_spec = tie.close (tie.spec (λ c. search rules) (λ c κs. search rules) (λ c κs. search rules) returns)

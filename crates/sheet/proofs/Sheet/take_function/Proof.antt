@@ -35,7 +35,7 @@ returns-2 c =
     let cut = cut-copy (7 * n) v.t1.formals (7 * get_or v.body.now 0 0) (drop 1 v.body.now) 7 (omega arith) (omega arith) (omega arith) in
     rw (cut-store n v.t1.defined _ _ 1 e h, filled, cut, cut-entry n v.t1.defined _ _ e h) (search cases)
 
-pub take-function-spec : {M : Type 1} → statement M
-take-function-spec =
+pub take_function_spec : {M : Type 1} → statement M
+take_function_spec =
     tie.close (tie.spec (λ c. search rules) (λ c κs. search rules) (λ c. search rules) returns (λ c. search rules)
     (λ c. search rules) (λ c. search rules) (λ c. search rules) (λ c κs. search rules) returns-2)

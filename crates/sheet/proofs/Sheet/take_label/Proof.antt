@@ -26,7 +26,7 @@ returns-2 c =
     rw (cut-store n v.t1.types _ _ (get_or v.body.now 1 0) e h, cut-store n v.t1.flags _ _ (get_or v.body.now 2 0) e h, cut-entry n v.t1.types _ _ e h)
     (search cases)
 
-pub take-label-spec : {M : Type 1} → statement M
-take-label-spec =
+pub take_label_spec : {M : Type 1} → statement M
+take_label_spec =
     tie.close (tie.spec (λ c. search rules) (λ c κs. search rules) (λ c. search rules) returns (λ c. search rules)
     (λ c. search rules) (λ c. search rules) (λ c. search rules) returns-2)

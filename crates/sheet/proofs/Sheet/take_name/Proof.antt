@@ -13,7 +13,7 @@ returns-2 : tie.Need-returns-2
 unfolding whole_refusal misnamed twice after
 returns-2 c = rw (← c.before.before.before.index.ensures.0) (search cases)
 
-pub take-name-spec : {M : Type 1} → statement M
-take-name-spec =
+pub take_name_spec : {M : Type 1} → statement M
+take_name_spec =
     tie.close (tie.spec (λ c. search rules) (λ c κs. search rules) (λ c. search rules) returns (λ c. search rules)
     (λ c. search rules) returns-2)

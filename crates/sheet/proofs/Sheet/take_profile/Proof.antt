@@ -13,5 +13,5 @@ returns-2 : tie.Need-returns-2
 unfolding whole_refusal misnamed twice after
 returns-2 c = search cases
 
-pub take-profile-spec : {M : Type 1} → statement M
-take-profile-spec = tie.close (tie.spec returns (λ c. search rules) returns-2)
+pub take_profile_spec : {M : Type 1} → statement M
+take_profile_spec = tie.close (tie.spec returns (λ c. search rules) returns-2)

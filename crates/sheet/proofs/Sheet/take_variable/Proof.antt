@@ -29,7 +29,7 @@ returns-3 c =
     rw o.before.before.before.before.index.ensures.0
     (passed s 5 v.body.now _ (variable-once s v.body.now (sym o.before.both.ensures ∙ o.if1.false) (sym c.before.owner_of.ensures ∙ c.if2.false)) refl)
 
-pub take-variable-spec : {M : Type 1} → statement M
-take-variable-spec =
+pub take_variable_spec : {M : Type 1} → statement M
+take_variable_spec =
     tie.close (tie.spec (λ c. search rules) (λ c κs. search rules) (λ c. search rules) (λ c. search rules) (λ c κs. search rules)
     returns (λ c. search rules) (λ c κs. search rules) returns-2 (λ c. search rules) (λ c. search rules) returns-3)

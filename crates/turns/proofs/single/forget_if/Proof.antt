@@ -7,5 +7,5 @@ use Rattle.turns.proofs.single.forget_if.Tie as tie
 returns : tie.Need-returns
 returns c = λ o p old t since m. remembers-since since (c.forget.ensures o p old t m)
 
-pub forget-if-spec : {M : Type 1} → statement M
-forget-if-spec = tie.close (tie.spec (λ c κs. search rules) returns (λ c o p old t since m. m))
+pub forget_if_spec : {M : Type 1} → statement M
+forget_if_spec = tie.close (tie.spec (λ c κs. search rules) returns (λ c o p old t since m. m))

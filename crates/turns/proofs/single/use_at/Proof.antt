@@ -27,7 +27,7 @@ returns-2 c =
     let named = start.requires.2 test.if2.true in
     (λ known. steps-record said.statement-at.result named.0 named.1 (said.statement-at.ensures.0 _) (turn.apply.ensures _ known.lays known.formals-of known.returning), search rules)
 
-pub use-at-spec : {M : Type 1} → statement M
-use-at-spec =
+pub use_at_spec : {M : Type 1} → statement M
+use_at_spec =
     tie.close (tie.spec (λ c κs. search rules) (λ c. search rules) returns statement-at-requires (λ c κs. search rules)
     (λ c. search rules) returns-2 (λ c. (λ known. steps-none, refl)))

@@ -22,7 +22,7 @@ returns-2 c =
     let named = start.requires.2 test.if2.true in
     (λ keeps lays. steps-part said.statement-at.result named.0 named.1 (said.statement-at.ensures.0 _) (turn.apply-part.ensures.0 _ lays), search rules)
 
-pub use-part-spec : {M : Type 1} → statement M
-use-part-spec =
+pub use_part_spec : {M : Type 1} → statement M
+use_part_spec =
     tie.close (tie.spec (λ c. (λ keeps lays. steps-none, refl)) statement-at-requires (λ c κs. search rules) (λ c. search rules)
     returns-2 (λ c. (λ keeps lays. steps-none, refl)))

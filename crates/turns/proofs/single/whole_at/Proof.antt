@@ -4,5 +4,5 @@ use native.Mathlib.Omega.{arith}
 use Rattle.turns.proofs.single.whole_at.Statement.{statement}
 use Rattle.turns.proofs.single.whole_at.Tie as tie
 
-pub whole-at-spec : {M : Type 1} → statement M
-whole-at-spec = tie.close (tie.spec (λ c L file named h. absurd (omega (arith, h))) (λ c. search rules))
+pub whole_at_spec : {M : Type 1} → statement M
+whole_at_spec = tie.close (tie.spec (λ c L file named h. absurd (omega (arith, h))) (λ c. search rules))

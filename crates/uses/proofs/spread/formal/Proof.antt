@@ -4,5 +4,5 @@ use borrow.Author.Rules.{rules}
 use Rattle.uses.proofs.spread.formal.Statement.{statement}
 use Rattle.uses.proofs.spread.formal.Tie as tie
 
-pub formal-spec : {M : Type 1} → statement M
-formal-spec = tie.close (tie.spec (λ c. search rules) (λ c. search rules) (λ c. search rules) (λ c. search rules) (λ c. refl))
+pub formal_spec : {M : Type 1} → statement M
+formal_spec = tie.close (tie.spec (λ c. search rules) (λ c. search rules) (λ c. search rules) (λ c. search rules) (λ c. refl))

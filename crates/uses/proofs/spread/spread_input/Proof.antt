@@ -40,8 +40,8 @@ loop-again c =
           one.spread-one.ensures.1 loop.loop.invariant.1,
     )
 
-pub spread-input-spec : {M : Type 1} → statement M
-spread-input-spec =
+pub spread_input_spec : {M : Type 1} → statement M
+spread_input_spec =
     tie.close (tie.spec invariant-loop decreases-loop (λ c κs. search rules) (λ c. (refl, spreading-start)) (λ c κs. search rules)
     (λ c κs. some_left _ c.before.is-empty.ensures c.if1.true) (λ c κs. search rules) (λ c κs. search rules)
     spread-one-requires (λ c. search rules) loop-again (λ c. search rules) (λ c. search (rules, spreading-end, none_left)))

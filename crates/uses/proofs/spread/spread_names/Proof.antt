@@ -30,7 +30,7 @@ spread-one-requires c κs =
     let start = loop.before.before in
     (rw loop.loop.invariant.0 start.requires.0, omega (arith, next.next.ensures.below, start.requires.1))
 
-pub spread-names-spec : {M : Type 1} → statement M
-spread-names-spec =
+pub spread_names_spec : {M : Type 1} → statement M
+spread_names_spec =
     tie.close (tie.spec invariant-loop decreases-loop (λ c. (refl, spreading-start)) (λ c κs. search rules) add_r spread-one-requires
     (λ c. search rules) (λ c. search (rules, spreading-next)) (λ c. search rules) (λ c. search (rules, spreading-end)))

@@ -25,7 +25,7 @@ returns-2 c =
       meet-start (value a.wide a.start) (value a.wide row.row.result) meet.meet.ensures,
     )
 
-pub spread-one-spec : {M : Type 1} → statement M
-spread-one-spec =
+pub spread_one_spec : {M : Type 1} → statement M
+spread_one_spec =
     tie.close (tie.spec (λ c. (spread-nowhere c.if1.true, λ m h. h)) (λ c κs. search (rules, row_fits)) row-requires
     (λ c κs. search rules) (λ c. search rules) returns-2)

@@ -26,8 +26,8 @@ spread-names-requires c κs =
     let start = loop.before.before.before in
     (rw loop.loop.invariant.0 start.requires, names-fit start.args.wide next.next.ensures.below property.property.ensures.0)
 
-pub spread-under-spec : {M : Type 1} → statement M
-spread-under-spec =
+pub spread_under_spec : {M : Type 1} → statement M
+spread_under_spec =
     tie.close (tie.spec invariant-loop decreases-loop (λ c κs. search rules) (λ c. (refl, spreading-start)) (λ c κs. search rules)
     (λ c κs. some_left _ c.before.is-empty.ensures c.if1.true) (λ c κs. search rules) spread-names-requires
     (λ c. search rules) (λ c. search (rules, spreading-next, spread-for, rows_of, of-rows)) (λ c. search rules)
