@@ -3,7 +3,7 @@ ghost use Rattle.std.specs.Prelude.{◌≡◌};
 ghost use Rattle.answer.specs.Outcome.{refused, packed, Ranged};
 ghost use Rattle.answer.specs.Answer.{outcome_of};
 
-#[derive(Drop)]
+#[derive(Clone, Copy)]
 pub enum Answer {
     // The number of facts.
     Confined(u32),

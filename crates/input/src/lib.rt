@@ -7,7 +7,7 @@ mod wait;
 
 ghost use Rattle.input.specs.Within.{Within};
 
-#[derive(Drop)]
+#[derive(Clone, Copy)]
 pub enum Got {
     // so many bytes, at the start of the buffer
     Read(usize),

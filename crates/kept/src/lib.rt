@@ -46,7 +46,7 @@ fn with_of(keeps: &[u64; 256], wide: bool, pair: usize) -> Set
 
 // What a union asks: `base` is told already, `rest` is to be read, no label where `known`; and where the pair is of use no longer or the answer is larger, it
 // may take its place.
-#[derive(Drop)]
+#[derive(Clone, Copy)]
 pub struct Asked {
     pub base: Set,
     pub rest: Set,
@@ -133,7 +133,7 @@ pub fn answer(
 }
 
 // What a spread leaves to do: the labels whose rows may lack something; `skip` says that some were passed over.
-#[derive(Drop)]
+#[derive(Clone, Copy)]
 pub struct Left {
     pub rest: Set,
     pub skip: bool,

@@ -8,7 +8,7 @@ use indexing::parts::{byte, bytes_at, callees, names_read, names_written, one, r
 use rows::Label;
 use sets::Set;
 
-#[derive(Drop)]
+#[derive(Clone, Copy)]
 pub struct Ends {
     pub variables: Set,
     pub scopes: Set,

@@ -12,7 +12,7 @@ ghost use Rattle.records.specs.Parts.{named_in, grant_in, property_in, held_in, 
 use rows::{Label, Name, Var};
 
 // What a call hands over: this and six arguments.
-#[derive(Drop)]
+#[derive(Clone, Copy)]
 pub struct Inputs {
     pub this: Var,
     pub first: Var,
@@ -24,7 +24,7 @@ pub struct Inputs {
 }
 
 // Where a function is called: the scope, the variable of the result, the callee, the inputs.
-#[derive(Drop)]
+#[derive(Clone, Copy)]
 pub struct Site {
     pub scope: Label,
     pub result: Var,
@@ -33,7 +33,7 @@ pub struct Site {
 }
 
 // What a record says to the rules (document 01, "The statement file"); records that only declare say nothing.
-#[derive(Drop)]
+#[derive(Clone, Copy)]
 pub enum Statement {
     Nothing,
     // 5: v, name

@@ -5,15 +5,15 @@ ghost use Rattle.rows.specs.Row.{variable, property, chain, thrown, number, row_
 ghost use Rattle.rows.specs.Edition.{labels, word_count};
 
 // The number of a variable, 0 to 255.
-#[derive(Drop)]
+#[derive(Clone, Copy)]
 pub struct Var(pub u8);
 
 // The number of a label, below 64 or 256.
-#[derive(Drop)]
+#[derive(Clone, Copy)]
 pub struct Label(pub u8);
 
 // The number of a name, below 32.
-#[derive(Drop)]
+#[derive(Clone, Copy)]
 pub struct Name(pub u8);
 
 impl Var {

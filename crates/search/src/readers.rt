@@ -170,7 +170,7 @@ pub fn next_reader(
 // ---- what is new in the object of a load
 
 // Labels that are all that is new in it, where `known`.
-#[derive(Drop)]
+#[derive(Clone, Copy)]
 pub struct Part {
     pub known: bool,
     pub labels: Set,

@@ -9,7 +9,7 @@ ghost use Rattle.sets.specs.Value.{value};
 
 use rows::Label;
 
-#[derive(Drop)]
+#[derive(Clone, Copy)]
 pub struct Set {
     pub a: u64,
     pub b: u64,
@@ -181,7 +181,7 @@ pub fn size(wide: bool, x: Set) -> u32
 }
 
 // The lowest label of a set, and the set without it: a turn of a loop over the labels.
-#[derive(Drop)]
+#[derive(Clone, Copy)]
 pub struct Split {
     pub label: Label,
     pub rest: Set,

@@ -11,7 +11,7 @@ use rows::{Label, Name, Var};
 use sets::Set;
 
 // Whether a row grew, and labels that all the rows hold.
-#[derive(Drop)]
+#[derive(Clone, Copy)]
 pub struct Spread {
     pub grew: bool,
     pub least: Set,

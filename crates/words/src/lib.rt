@@ -71,7 +71,7 @@ pub fn lowest(x: u64) -> u32
 }
 
 // The lowest label of a set, and the set without it: a turn of a loop over the labels.
-#[derive(Drop)]
+#[derive(Clone, Copy)]
 pub struct Split {
     pub label: usize,
     pub rest: u64,
