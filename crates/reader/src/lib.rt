@@ -9,7 +9,7 @@ ghost use Rattle.format.specs.Reading.{read_from, read_file};
 use sheet::Sheet;
 
 // What a file declares, or the number of its refusal (0 is ok) and the position.
-#[derive(Drop)]
+#[derive(Clone, Copy)]
 pub struct Reading {
     pub sheet: Sheet,
     pub refusal: u8,

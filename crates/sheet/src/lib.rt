@@ -28,7 +28,7 @@ const FORMALS: usize = 1792;
 // No class has this number.
 const NO_PROFILE: u8 = 255;
 
-#[derive(Drop)]
+#[derive(Clone, Copy)]
 pub struct Sheet {
     // of each label: 0 not declared, 1 plain, 2 function, 3 array
     pub types: [u8; LABELS],
@@ -51,7 +51,7 @@ pub struct Sheet {
 }
 
 // The next sheet, or the sheet as it was and the number of the refusal; 0 is ok.
-#[derive(Drop)]
+#[derive(Clone, Copy)]
 pub struct Taken {
     pub sheet: Sheet,
     pub refusal: u8,
