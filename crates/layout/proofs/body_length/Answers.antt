@@ -5,12 +5,10 @@ use Prim.Native.Nat.{ℕ, zero, suc, ◌+◌, ◌-◌, ◌*◌, ◌/◌, ◌%◌
 use native.Mathlib.Decide.{ℕ_discrete}
 use native.Mathlib.Omega.{arith}
 use lib.Dec.{eqb}
-use borrow.Author.Rules.{rules}
 use borrow.Author.Tests.{eqb-true}
 use Rattle.layout.specs.Layout.{body_length}
 use Rattle.layout.proofs.Table.{and_parts, no_kind}
-use Rattle.layout.proofs.body_length.Statement.{statement}
-use Rattle.layout.proofs.body_length.Tie as tie
+use Rattle.layout.proofs.body_length.Goals as goal
 
 abbrev digit : ℕ → ℕ → ℕ
 digit w j = w / 2 ^ (4 * j) % 16
@@ -37,10 +35,8 @@ low_digit j h = let e : 0 + j ≡ j = omega arith in rw e at (agree_at 0x1231381
 high_digit : (k : ℕ) → 16 ≤ k → k < 32 → digit 0x2222ba43453 (k - 16) ≡ body_length k
 high_digit k l h = let e : 16 + (k - 16) ≡ k = omega arith in rw e at (agree_at 0x2222ba43453 16 16 refl (k - 16) (omega arith))
 
-returns-2 : tie.Need-returns-2
-returns-2 c = high_digit c.before.before.args.kind (search rules) (search rules)
+pub returns-then-k-lt32 : goal.returns-then-k-lt32
+returns-then-k-lt32 c = high_digit c.args.kind (omega arith) (omega arith)
 
-pub body_length_spec : {M : Type 1} → statement M
-body_length_spec =
-    tie.close (tie.spec (λ c. search rules) (λ c. search rules) (λ c. low_digit c.before.args.kind (search rules))
-    (λ c. search rules) (λ c. search rules) returns-2 (λ c. sym (no_kind c.before.before.args.kind (search rules))))
+pub returns : goal.returns
+returns c = sym (no_kind c.args.kind (omega arith))
