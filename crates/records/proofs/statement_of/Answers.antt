@@ -47,7 +47,7 @@ pub returns-in-22 : goal.returns-in-22
 returns-in-22 c = let s = said _ _ c.in-22.is c.new.ensures c.requires (new-says (labels c.args.wide) c.args.body.now) in record { body_value = s.0; in_bounds = s.1 }
 
 pub returns-in-23 : goal.returns-in-23
-returns-in-23 c = let s = said {r = Return} {s = Return} _ _ c.in-23.is refl c.requires (return-says (labels c.args.wide) c.args.body.now) in record { body_value = s.0; in_bounds = s.1 }
+returns-in-23 c = let s = said _ _ {r = Return} {s = Return} c.in-23.is refl c.requires (return-says (labels c.args.wide) c.args.body.now) in record { body_value = s.0; in_bounds = s.1 }
 
 pub returns-in-24 : goal.returns-in-24
 returns-in-24 c = let s = said _ _ c.in-24.is c.throw.ensures c.requires (throw-says (labels c.args.wide) c.args.body.now) in record { body_value = s.0; in_bounds = s.1 }
