@@ -9,13 +9,10 @@ use std::io::Result;
 
 // A set's labels, ascending, a space before each.
 fn print_labels(rt: &impl Print, wide: bool, s: Set) -> Result<()> {
-    let n = rows::labels(wide);
-    let mut l: usize = 0;
-    while l < n {
+    for l in 0..rows::labels(wide) {
         if sets::has(wide, s, Label(l as u8)) == 1 {
             print!(rt; " {l}")?;
         }
-        l += 1;
     }
     Ok(())
 }
