@@ -6,10 +6,9 @@
 
 use input::Got;
 use rows::{LARGE_TABLE_WORDS, TABLE_WORDS};
-use std::fs;
-use std::io::Result;
+use std::{fs, io};
 
-fn judge(rt: &impl Print, file: &[u8]) -> Result<()> {
+fn judge(rt: &impl Print, file: &[u8]) -> io::Result<()> {
     let mut table = [0u64; TABLE_WORDS];
     desk::print_verdict(rt, file, false, &mut table)?;
     report::print(
@@ -20,7 +19,7 @@ fn judge(rt: &impl Print, file: &[u8]) -> Result<()> {
     )
 }
 
-fn judge_large(rt: &impl Print, file: &[u8]) -> Result<()> {
+fn judge_large(rt: &impl Print, file: &[u8]) -> io::Result<()> {
     let mut table = [0u64; LARGE_TABLE_WORDS];
     desk::print_verdict(rt, file, true, &mut table)?;
     report::print(
@@ -31,7 +30,7 @@ fn judge_large(rt: &impl Print, file: &[u8]) -> Result<()> {
     )
 }
 
-fn judge_both(rt: &impl Print, file: &[u8]) -> Result<()> {
+fn judge_both(rt: &impl Print, file: &[u8]) -> io::Result<()> {
     judge(rt, file)?;
     judge_large(rt, file)
 }

@@ -7,10 +7,10 @@ ghost use Rattle.std.specs.Prelude.{◌≤◌, length};
 ghost use Rattle.rows.specs.Edition.{word_count};
 
 use input::Got;
-use std::io::Result;
+use std::io;
 
 // The verdict on a file, printed.
-pub fn print_verdict(rt: &impl Print, file: &[u8], wide: bool, table: &mut [u64]) -> Result<()>
+pub fn print_verdict(rt: &impl Print, file: &[u8], wide: bool, table: &mut [u64]) -> io::Result<()>
     requires { word_count wide ≤ length table.old }
 {
     let answer = operations::judge(file, wide, table);

@@ -5,10 +5,10 @@
 use answer::Answer;
 use rows::Label;
 use sets::Set;
-use std::io::Result;
+use std::io;
 
 // A set's labels, ascending, a space before each.
-fn print_labels(rt: &impl Print, wide: bool, s: Set) -> Result<()> {
+fn print_labels(rt: &impl Print, wide: bool, s: Set) -> io::Result<()> {
     for l in 0..rows::labels(wide) {
         if sets::has(wide, s, Label(l as u8)) == 1 {
             print!(rt; " {l}")?;
@@ -18,18 +18,18 @@ fn print_labels(rt: &impl Print, wide: bool, s: Set) -> Result<()> {
 }
 
 // What the guest's bag may hold.
-fn print_guest(rt: &impl Print, wide: bool, bag: Set) -> Result<()> {
+fn print_guest(rt: &impl Print, wide: bool, bag: Set) -> io::Result<()> {
     print!(rt; "\nguest")?;
     print_labels(rt, wide, bag)?;
     println!(rt; "")
 }
 
-fn print_refusal(rt: &impl Print, number: u8, position: u64) -> Result<()> {
+fn print_refusal(rt: &impl Print, number: u8, position: u64) -> io::Result<()> {
     println!(rt; "refused {number} {position}")
 }
 
 // The answer, and for a verdict the labels in the guest's bag.
-pub fn print(rt: &impl Print, a: Answer, wide: bool, bag: Set) -> Result<()> {
+pub fn print(rt: &impl Print, a: Answer, wide: bool, bag: Set) -> io::Result<()> {
     match a {
         Answer::Confined(count) => {
             print!(rt; "confined {count}")?;
