@@ -48,11 +48,11 @@ module _ {x y : ℕ} {b : Bool} (wide : Bool) (t : List ℕ) (o r : ℕ) (e : o 
   second : y ≡ get_or (table_at wide (word_count wide) t) r 0
   second = row_is wide (word_count wide) t r h (rw e at new)
 
-  pub same_next : not b ≡ false → SameBelow wide t r → SameBelow wide t (r + 1)
+  pub same_next : b ≡ true → SameBelow wide t r → SameBelow wide t (r + 1)
   same_next s below q l i g = go (ℕ_discrete q r)
     where
       none : difference y x ≡ 0
-      none = eqb-true (difference y x) 0 (sym test ∙ not-false b s)
+      none = eqb-true (difference y x) 0 (sym test ∙ s)
 
       go : Dec (q ≡ r) → Has (table_at wide 0 t) q l
       go (yes p) =
@@ -60,11 +60,11 @@ module _ {x y : ℕ} {b : Bool} (wide : Bool) (t : List ℕ) (o r : ℕ) (e : o 
           rw (p, ← first) (no_more y x l none held)
       go (no d) = below q l (omega (arith, d)) g
 
-  pub grown-here : Words t → not b ≡ true → SameBelow wide t r → Grown wide t r
+  pub grown-here : Words t → b ≡ false → SameBelow wide t r → Grown wide t r
   grown-here small s below =
       let hx : x < 2 ^ labels wide = rw first (table-small wide 0 t small r) in
       let hy : y < 2 ^ labels wide = rw second (table-small wide (word_count wide) t small r) in
-      let m = more (labels wide) y x hy hx (eqb-false (difference y x) 0 (sym test ∙ not-true b s)) in
+      let m = more (labels wide) y x hy hx (eqb-false (difference y x) 0 (sym test ∙ s)) in
       record { bound = omega arith; below = below; here = λ _. (m.0, rw (← second) m.1, λ g. m.2 (rw (← first) at g)) }
 
 pub grown-nowhere : (wide : Bool) (t : List ℕ) (r : ℕ) → r ≡ row_count (labels wide) → SameBelow wide t r → Grown wide t r

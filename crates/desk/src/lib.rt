@@ -1,37 +1,47 @@
 // The programs `verdict` and `verdict_large`: a statement file is read on standard input, and the verdict printed (document 01, "Listed files"). One byte
 // more than is allowed is read, so that a file that is too long is refused and never cut off. A file that was not read to its end has no verdict: then
 // nothing is printed on standard output, and a line on standard error says why.
+#![tactic(auto)]
+
 ghost use Rattle.std.specs.Prelude.{◌≤◌, length};
 ghost use Rattle.rows.specs.Edition.{word_count};
 
 use input::Got;
-use libc::{STDERR_FILENO, STDIN_FILENO};
+use std::io;
 
-// The verdict on a file, printed; answers whether all of it was written.
-pub fn print_verdict(file: &[u8], wide: bool, table: &mut [u64]) -> bool
+// The verdict on a file, printed.
+pub fn print_verdict(rt: &impl Print, file: &[u8], wide: bool, table: &mut [u64]) -> io::Result<()>
     requires { word_count wide ≤ length table.old }
 {
     let answer = operations::judge(file, wide, table);
     let bag = lent::row(table, 0, wide, 1);
-    report::print(answer, wide, bag)
+    report::print(rt, answer, wide, bag)
 }
 
 // A program of the edition: what it says of its use, of input that cannot be read, of output that cannot be written.
-pub fn run(wide: bool, table: &mut [u64], usage: &[u8], unread: &[u8], unwritten: &[u8])
+pub fn run(
+    rt: &HostRuntime,
+    wide: bool,
+    table: &mut [u64],
+    usage: &[u8],
+    unread: &[u8],
+    unwritten: &[u8],
+)
     requires { word_count wide ≤ length table.old }
 {
-    if os::arg_count() > 1 {
-        io::write_all(STDERR_FILENO, usage);
+    let trouble = rt.stderr();
+    if input::has_words(rt) {
+        let _ = trouble.write_all(usage);
         return;
     }
     let mut file = [0u8; layout::LONGEST + 1];
-    let got = input::read_all(STDIN_FILENO, &mut file);
+    let got = input::read_all(rt, &mut rt.stdin(), &mut file);
     match got {
         Got::Read(n) => {
-            if !print_verdict(&file[..n], wide, table) {
-                os::fail(unwritten);
+            if let Err(error) = print_verdict(rt, &file[..n], wide, table) {
+                input::fail(&trouble, unwritten, error);
             }
         }
-        Got::Failed => os::fail(unread),
+        Got::Failed(error) => input::fail(&trouble, unread, error),
     }
 }

@@ -2,30 +2,28 @@
 // and then in that of 256. The cases are the edges of every field of every kind, cut records and functions left out; they and what this program must
 // print come from the reader in tests/second, which was written from the papers alone (`cargo run --example edge_cases` there). Where they cannot be read
 // nothing is printed, and a line on standard error says why.
+#![tactic(auto)]
+
 use input::Got;
-use libc::{STDERR_FILENO, STDOUT_FILENO};
+use std::fs;
 
 // One byte more than the cases may have.
 const MOST: usize = 262144;
 
-// What reading a file gives.
-fn show(file: &[u8], wide: bool) {
+// What reading a file gives. A line that cannot be written is passed over.
+fn show(rt: &impl Print, file: &[u8], wide: bool) {
     let r = reader::read(file, wide);
     let no = r.refusal;
     let position = r.position;
-    if no == 0 {
-        io::write_all(STDOUT_FILENO, b"read\n");
-        return;
-    }
-    io::write_all(STDOUT_FILENO, b"refused ");
-    io::print_decimal(STDOUT_FILENO, no as u64);
-    io::write_all(STDOUT_FILENO, b" ");
-    io::print_decimal(STDOUT_FILENO, position as u64);
-    io::write_all(STDOUT_FILENO, b"\n");
+    let _ = if no == 0 {
+        println!(rt; "read")
+    } else {
+        println!(rt; "refused {no} {position}")
+    };
 }
 
 // Each case: two bytes of length, the low one first, then the file.
-fn show_all(cases: &[u8], wide: bool) {
+fn show_all(rt: &impl Print, cases: &[u8], wide: bool) {
     let mut at: usize = 0;
     while at < cases.len() {
         if cases.len() - at < 2 {
@@ -35,51 +33,51 @@ fn show_all(cases: &[u8], wide: bool) {
         if cases.len() - at - 2 < n {
             return;
         }
-        show(&cases[at + 2..at + 2 + n], wide);
+        show(rt, &cases[at + 2..at + 2 + n], wide);
         at = at + 2 + n;
     }
 }
 
 // The files of the largest size, and of a byte less and more.
-fn show_sizes(wide: bool) {
+fn show_sizes(rt: &impl Print, wide: bool) {
     let full = [3u8; layout::LONGEST + 1];
-    show(&full[..layout::LONGEST - 1], wide);
-    show(&full[..layout::LONGEST], wide);
-    show(&full, wide);
+    show(rt, &full[..layout::LONGEST - 1], wide);
+    show(rt, &full[..layout::LONGEST], wide);
+    show(rt, &full, wide);
 }
 
-fn show_edition(cases: &[u8], wide: bool) {
-    show_all(cases, wide);
-    show_sizes(wide);
+fn show_edition(rt: &impl Print, cases: &[u8], wide: bool) {
+    show_all(rt, cases, wide);
+    show_sizes(rt, wide);
 }
 
-fn main() {
-    if os::arg_count() > 1 {
-        io::write_all(
-            STDERR_FILENO,
-            b"usage: edges (in the folder that has its file)\n",
-        );
+fn main(rt: HostRuntime) {
+    let trouble = rt.stderr();
+    if input::has_words(&rt) {
+        let _ = trouble.write_all(b"usage: edges (in the folder that has its file)\n");
         return;
     }
-    let name = b"cases";
-    let fd = os::open_read(name);
-    if fd < 0 {
-        os::fail(name);
-        return;
-    }
+    let name = "cases";
+    let opened = fs::open(&rt, name);
+    let mut from = match opened {
+        Ok(from) => from,
+        Err(error) => {
+            input::fail(&trouble, name.as_bytes(), error);
+            return;
+        }
+    };
     let mut cases = [0u8; MOST];
-    let got = input::read_all(fd, &mut cases);
+    let got = input::read_all(&rt, &mut from, &mut cases);
     match got {
         Got::Read(n) => {
             if n == MOST {
-                io::write_all(STDERR_FILENO, b"cases: is too long\n");
+                let _ = trouble.write_all(b"cases: is too long\n");
             } else {
                 let list = &cases[..n];
-                show_edition(list, false);
-                show_edition(list, true);
+                show_edition(&rt, list, false);
+                show_edition(&rt, list, true);
             }
         }
-        Got::Failed => os::fail(name),
+        Got::Failed(error) => input::fail(&trouble, name.as_bytes(), error),
     }
-    libc::close(fd);
 }

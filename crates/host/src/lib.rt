@@ -1,5 +1,7 @@
 // What the engine goes by beside the table, in an array of 17 words: the labels of functions, those of built-in objects, the names of each class, the
 // class of names that the guest is held to.
+#![tactic(auto)]
+
 ghost use Rattle.std.specs.Prelude.{◌≡◌};
 ghost use Rattle.layout.specs.Key.{Key};
 ghost use Rattle.sets.specs.Value.{value};

@@ -116,19 +116,19 @@ pub first_fits : (wide : Bool) → 17 ≤ pair_count wide
 first_fits true = omega arith
 first_fits false = omega arith
 
-pub small-room : (wide : Bool) → not wide ≡ true → pair_count wide ≡ 128
-small-room true e = never e
+pub small-room : (wide : Bool) → wide ≡ false → pair_count wide ≡ 128
+small-room true e = never (sym e)
 small-room false e = refl
 
 -- where there is room for 32 pairs
-pub forgets-first : {before after : List ℕ} (wide : Bool) → not wide ≡ false → Cleared wide 0 17 before after → (q : ℕ) → q < pair_count wide
+pub forgets-first : {before after : List ℕ} (wide : Bool) → wide ≡ true → Cleared wide 0 17 before after → (q : ℕ) → q < pair_count wide
     → Forgets wide before after q
 forgets-first {before} {after} true e c q j =
     elim (dec_lt q 17) [
       | yes h ↦ inl (c.empty q (omega arith) h)
       | no h ↦ inr (c.above q (omega (arith, h)), no-union q (omega (arith, h)) (inl j))
     ]
-forgets-first false e c q j = never (sym e)
+forgets-first false e c q j = never e
 
 -- where there is room for 128, those of single names and of the names outside a class too
 pub forgets-names : {before between after : List ℕ} (wide : Bool) → Cleared wide 0 17 before between → Cleared wide 32 72 between after → (q : ℕ)

@@ -1,5 +1,7 @@
 // The arrays that the engine goes by, filled once for a file: the labels of functions and of built-in objects, the names of each class, the
 // class that the guest is held to, and the variables that functions return.
+#![tactic(auto)]
+
 ghost use Rattle.std.specs.Prelude.{◌≡◌, cond, ◌^◌, ◌<◌, length, take, replicate, eqb, ltb};
 ghost use Rattle.words.specs.Words.{bit, union};
 ghost use Rattle.rows.specs.Edition.{labels};

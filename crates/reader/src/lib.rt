@@ -1,5 +1,7 @@
 // Reads a statement file: a loop over the records with a loop over each record's fields, left at the first refusal (document 01, "What each
 // operation says no to", without 8, which is about the table). `wide` says which edition it is, of 256 labels or of 64.
+#![tactic(auto)]
+
 ghost use Rattle.std.specs.Prelude.{◌≡◌};
 ghost use Rattle.rows.specs.Edition.{labels};
 ghost use Rattle.sheet.specs.View.{sheet_of};

@@ -1,4 +1,6 @@
 // The records of a readable file: where the next one begins, and what each says, with its bytes as variables, labels and names.
+#![tactic(auto)]
+
 ghost use Rattle.std.specs.Prelude.{◌≡◌, ◌+◌, ◌<◌, ◌≤◌, length, get_or};
 ghost use Rattle.rows.specs.Edition.{labels};
 ghost use Rattle.layout.specs.Layout.{body_length};

@@ -1,69 +1,48 @@
 // What the programs print of an answer (document 01, "Listed files"). No contract can say what is written; the programs' `stdout` files hold it.
-// Each function answers whether all of it was written, and stops at the first write that fails; errno then says why.
+// Each function stops at the first write that fails, and its error says why.
+#![tactic(auto)]
+
 use answer::Answer;
-use libc::STDOUT_FILENO;
 use rows::Label;
 use sets::Set;
-
-fn print_text(text: &[u8]) -> bool {
-    io::write_all(STDOUT_FILENO, text)
-}
-
-fn print_number(n: u64) -> bool {
-    io::print_decimal(STDOUT_FILENO, n)
-}
-
-fn print_label(l: u64) -> bool {
-    print_text(b" ") && print_number(l)
-}
+use std::io;
 
 // A set's labels, ascending, a space before each.
-fn print_labels(wide: bool, s: Set) -> bool {
-    let n = rows::labels(wide);
-    let mut l: usize = 0;
-    while l < n {
+fn print_labels(rt: &impl Print, wide: bool, s: Set) -> io::Result<()> {
+    for l in 0..rows::labels(wide) {
         if sets::has(wide, s, Label(l as u8)) == 1 {
-            if !print_label(l as u64) {
-                return false;
-            }
+            print!(rt; " {l}")?;
         }
-        l += 1;
     }
-    true
+    Ok(())
 }
 
 // What the guest's bag may hold.
-fn print_guest(wide: bool, bag: Set) -> bool {
-    print_text(b"\nguest") && print_labels(wide, bag) && print_text(b"\n")
+fn print_guest(rt: &impl Print, wide: bool, bag: Set) -> io::Result<()> {
+    print!(rt; "\nguest")?;
+    print_labels(rt, wide, bag)?;
+    println!(rt; "")
 }
 
-fn print_refusal(number: u8, position: u64) -> bool {
-    print_text(b"refused ")
-        && print_number(number as u64)
-        && print_text(b" ")
-        && print_number(position)
-        && print_text(b"\n")
+fn print_refusal(rt: &impl Print, number: u8, position: u64) -> io::Result<()> {
+    println!(rt; "refused {number} {position}")
 }
 
 // The answer, and for a verdict the labels in the guest's bag.
-pub fn print(a: Answer, wide: bool, bag: Set) -> bool {
+pub fn print(rt: &impl Print, a: Answer, wide: bool, bag: Set) -> io::Result<()> {
     match a {
         Answer::Confined(count) => {
-            print_text(b"confined ") && print_number(count as u64) && print_guest(wide, bag)
+            print!(rt; "confined {count}")?;
+            print_guest(rt, wide, bag)
         }
         Answer::Leaks(label, _, count) => {
-            print_text(b"leaks ")
-                && print_number(label as u64)
-                && print_text(b" ")
-                && print_number(count as u64)
-                && print_guest(wide, bag)
+            print!(rt; "leaks {label} {count}")?;
+            print_guest(rt, wide, bag)
         }
-        Answer::Accepted(_) => print_text(b"accepted\n"),
-        Answer::Refused(number, position) => print_refusal(number, position as u64),
-        Answer::Holds(label, _) => print_refusal(11, label as u64),
-        Answer::Choice(word) => print_text(b"choice ")
-            && print_number(word as u64)
-            && print_text(b"\n"),
-        Answer::NoneHelps => print_text(b"none helps\n"),
+        Answer::Accepted(_) => println!(rt; "accepted"),
+        Answer::Refused(number, position) => print_refusal(rt, number, position as u64),
+        Answer::Holds(label, _) => print_refusal(rt, 11, label as u64),
+        Answer::Choice(word) => println!(rt; "choice {word}"),
+        Answer::NoneHelps => println!(rt; "none helps"),
     }
 }

@@ -94,13 +94,13 @@ pub is_none : (v : ℕ) {b : Bool} → b ≡ eqb v 0 → b ≡ true → v ≡ 0
 is_none v e h = eqb-true v 0 (sym e ∙ h)
 
 -- what `while !is_empty(wide, rest)` knows in the loop, and behind it
-pub some_left : (v : ℕ) {b : Bool} → b ≡ eqb v 0 → not b ≡ true → 0 < v
+pub some_left : (v : ℕ) {b : Bool} → b ≡ eqb v 0 → b ≡ false → 0 < v
 some_left v {b} e h =
-    let d = eqb-false v 0 (sym e ∙ not-true b h) in
+    let d = eqb-false v 0 (sym e ∙ h) in
     omega (arith, d)
 
-pub none_left : (v : ℕ) {b : Bool} → b ≡ eqb v 0 → not b ≡ false → v ≡ 0
-none_left v {b} e h = is_none v e (not-false b h)
+pub none_left : (v : ℕ) {b : Bool} → b ≡ eqb v 0 → b ≡ true → v ≡ 0
+none_left v {b} e h = is_none v e h
 
 -- a run is 0 where its words are
 cat-zero : (n w : ℕ) → n * 2 ^ 64 + w ≡ 0 → (n ≡ 0) × (w ≡ 0)

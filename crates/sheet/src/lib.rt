@@ -1,5 +1,7 @@
 // The declaration sheet, a struct of arrays that takes one record and becomes the next sheet (document 01, "Table and sheet"). One sheet serves
 // both editions: its arrays are those of 256 labels, and where `wide` is false the entries of the first 64 count.
+#![tactic(auto)]
+
 ghost use Rattle.std.specs.Prelude.{◌≡◌, not, ◌*◌, ◌<◌, get_or, length};
 ghost use Rattle.std.proofs.Math.Seq.{paste};
 ghost use Rattle.rows.specs.Edition.{labels};

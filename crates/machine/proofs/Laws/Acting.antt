@@ -1,6 +1,6 @@
 -- Every statement of the program can be carried out in every frame of its scope, whatever is chosen. Assumes nothing.
 use mathlib.Core.Path.{◌≡◌, refl, ap, ◌∙◌}
-use mathlib.Core.List.{List, ◌∷◌, Memᴰ}
+use mathlib.Core.List.{List, [], ◌∷◌, Memᴰ}
 use mathlib.Core.Bool.{Bool, true, false, ◌||◌}
 use mathlib.Core.Option.{some}
 use Prim.Native.Nat.{ℕ}
@@ -56,6 +56,7 @@ acts {p} {s} {f} {k} {a} says here scope c brings =
 
 -- "choosing any pair the key allows"
 pub is_member : (x : ℕ) (xs : List ℕ) → Memᴰ x xs → member x xs ≡ true
+is_member x [] m = elim m [ ]
 is_member x (y ∷ xs) (Memᴰ.head e) = rw (eq-eqb x y e)
 is_member x (y ∷ xs) (Memᴰ.tail m) = go (eqb x y) (is_member x xs m)
   where

@@ -44,6 +44,7 @@ pub start-top : (p : Program) → TopFrame p
 start-top p = frame-at-start p top_frame (omega arith)
 
 guest-place : (gs : List Guest) (g : Guest) → Memᴰ g gs → (i : ℕ) × (i < length (guest_frames gs)) × (frame_in (guest_frames gs) i ≡ first_frame g.label (some top_frame))
+guest-place [] g m = elim m [ ]
 guest-place (h ∷ gs) g (Memᴰ.head e) = (0, omega arith, ap (λ (z : Guest). first_frame z.label (some top_frame)) (sym e))
 guest-place (h ∷ gs) g (Memᴰ.tail m) = let r = guest-place gs g m in (suc r.0, omega arith, r.2)
 
@@ -56,6 +57,7 @@ start-guest p g m =
 -- ---- objects
 
 among-fillings : (ss : List (ℕ × say.Statement)) (at : ℕ) (a : say.Statement) → Memᴰ (at, a) ss → Memᴰ (filling_of a) (map (λ s. filling_of s.1) ss)
+among-fillings [] at a m = elim m [ ]
 among-fillings (s ∷ ss) at a (Memᴰ.head e) = Memᴰ.head (ap (λ (z : ℕ × say.Statement). filling_of z.1) e)
 among-fillings (s ∷ ss) at a (Memᴰ.tail m) = Memᴰ.tail (among-fillings ss at a m)
 

@@ -23,6 +23,7 @@ in-the-bag b (in-global n h e) = absurd (h.no-bag b.guest b.among b.its-bag)
 in-the-bag b (in_frame k g h q e) = absurd (h.no-bag b.guest b.among b.its-bag)
 
 label-among : {i : ℕ} (os : List Object) (xs : List Value) → Memᴰ (object i) xs → Memᴰ (object_in os i).label (labels_among os xs)
+label-among os [] m = elim m [ ]
 label-among os (primitive ∷ xs) (Memᴰ.head e) = let z : ◌≡◌ {A = ℕ} 0 1 = cc in absurd (omega arith)
 label-among {i} os (object k ∷ xs) (Memᴰ.head e) = let z : i ≡ k = cc in Memᴰ.head (ap (λ (j : ℕ). (object_in os j).label) z)
 label-among os (primitive ∷ xs) (Memᴰ.tail m) = label-among os xs m
@@ -37,5 +38,5 @@ granted-is-held p g at at' v l before after among bag is last w m =
     let h = start-held p at v l before after is last w in
     let can = grant-copies-to-guest p (start p) top_frame v g.bag (object h.0) (start-top p).0 (records-say p at' (say.grant v g.bag) m) (reads_held (object h.0) h.2) (to-bag b) in
     let s = step p can.move (start p) in
-    let e : (object_at s h.0).label ≡ l = ((step-grown p (start p) can.move).same-objects h.0 h.1.is-there).same-label ∙ h.1.Label-is in
+    let e : (object_at s h.0).label ≡ l = ((step-grown p (start p) can.move).same-objects h.0 h.1.is-there).same-label ∙ h.1.label_is in
     (can.move ∷ [], subst (λ (z : ℕ). Memᴰ z (labels_held s g.bag)) e (label-among s.objects (s.bags g.bag) (in-the-bag b can.brings.holds-it)))

@@ -72,9 +72,9 @@ module _ (p : Program) (plain : type_of p.sheet 0 ≡ 2 → ⊥) where
 
   after-fillings : (ls : List ℕ) (earlier : List Filling) (s : State) (rest : List Filling) → Grounded s → Grounded (fill p ls earlier s rest)
   after-fillings ls earlier s [] d = d
-  after-fillings ls earlier s (property l n m ∷ rest) d = after-fillings ls _ _ rest (stays-kept.value-stored s _ _ _ _ d)
-  after-fillings ls earlier s (held v l ∷ rest) d = after-fillings ls _ _ rest (kept-write p StaysGrounded stays-kept s top_frame v _ d)
-  after-fillings ls earlier s (nothing ∷ rest) d = after-fillings ls _ s rest d
+  after-fillings ls earlier s (property l n m ∷ rest) d = after-fillings ls (property l n m ∷ earlier) _ rest (stays-kept.value-stored s _ _ _ _ d)
+  after-fillings ls earlier s (held v l ∷ rest) d = after-fillings ls (held v l ∷ earlier) _ rest (kept-write p StaysGrounded stays-kept s top_frame v _ d)
+  after-fillings ls earlier s (nothing ∷ rest) d = after-fillings ls (nothing ∷ earlier) s rest d
 
   pub start-grounded : Grounded (start p)
   start-grounded = after-fillings (start_labels p) [] (unfilled p (start_labels p)) (fillings p) (unfilled-grounded (start_labels p))

@@ -35,6 +35,7 @@ by-choice function = (1, refl)
 by-choice array = (2, refl)
 
 is-guest : (gs : List Guest) (l : ℕ) {g : Guest} → Memᴰ g gs → g.label ≡ l → is_guest gs l ≡ true
+is-guest [] l m q = elim m [ ]
 is-guest (h ∷ gs) l (Memᴰ.head e) q = rw (eq-eqb h.label l (rw e at q))
 is-guest (h ∷ gs) l (Memᴰ.tail m) q = go (eqb h.label l) (is-guest gs l m q)
   where

@@ -20,6 +20,7 @@ use Rattle.machine.proofs.Laws.Outward.{nearest-found}
 -- ---- the place of a variable of each sort
 
 is-bag : (gs : List Guest) (v : ℕ) {g : Guest} → Memᴰ g gs → g.bag ≡ v → is_bag gs v ≡ true
+is-bag [] v m q = elim m [ ]
 is-bag (h ∷ gs) v (Memᴰ.head e) q = rw (eq-eqb h.bag v (rw e at q))
 is-bag (h ∷ gs) v (Memᴰ.tail m) q = go (eqb h.bag v) (is-bag gs v m q)
   where

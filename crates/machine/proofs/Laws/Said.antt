@@ -1,7 +1,7 @@
 -- The statements that there are: the host's, and each guest's eight. Assumes nothing.
 use mathlib.Core.Path.{ap}
 use mathlib.Core.List.Memᴰ
-use mathlib.Core.List.{List, ◌∷◌, Memᴰ}
+use mathlib.Core.List.{List, [], ◌∷◌, Memᴰ}
 use Prim.Native.Nat.{ℕ}
 use Rattle.program.specs.Statement.{Statement}
 use Rattle.program.specs.Program.{Program, Guest, no_record_position, guest_statements, placed, guests_statements, statements}
@@ -18,6 +18,7 @@ placed-in at (Memᴰ.tail m) = Memᴰ.tail (placed-in at m)
 
 among-guests : {a : Statement} {g : Guest} {gs : List Guest} → Memᴰ g gs → Memᴰ a (guest_statements g) → Memᴰ (no_record_position, a) (guests_statements gs)
 unfolding guests_statements
+among-guests {gs = []} n m = elim n [ ]
 among-guests {gs = h ∷ gs} (Memᴰ.head e) m = Memᴰ.append_left (guests_statements gs) (placed-in no_record_position (rw e at m))
 among-guests {gs = h ∷ gs} (Memᴰ.tail n) m = Memᴰ.append_right (placed no_record_position (guest_statements h)) (among-guests n m)
 

@@ -1,0 +1,21 @@
+-- The invariant: the rows below r of both tables are cleaned ones. Assumes nothing.
+use borrow.Author.Rules.{rules}
+use mathlib.Core.Path.{◌≡◌, ◌∙◌}
+use native.Mathlib.Omega.{arith}
+use lib.ListN.{length}
+use Prim.Native.Nat.{◌-◌, ◌≤◌, ◌<◌}
+use Rattle.rows.specs.Edition.{labels}
+use Rattle.rows.specs.Row.{row_count}
+use Rattle.sets.specs.Value.{value}
+use Rattle.lent.specs.Table.{table_at}
+use Rattle.uses.proofs.Rows.{row_read}
+use Rattle.cleaning.proofs.Copies.{CleansBelow, cleans-first, cleans-next, cleans-all}
+use Rattle.cleaning.proofs.clean.Given as goal
+
+abbrev pub invariant-loop-r : goal.invariant-loop-r
+invariant-loop-r l =
+    (1 ≤ l.r) × (l.r ≤ l.n) × (length l.t ≡ length l.initial.t) × CleansBelow l.wide (value l.wide l.declared) (table_at l.wide 0 l.table) l.r l.t
+
+abbrev pub decreases-loop-r : goal.decreases-loop-r
+decreases-loop-r l = l.n - l.r
+

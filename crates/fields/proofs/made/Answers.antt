@@ -1,0 +1,6 @@
+-- `fields::made` meets its contract. Assumes nothing.
+use borrow.Author.Rules.{rules}
+use Rattle.fields.proofs.made.Goals as goal
+
+pub returns : goal.returns
+returns c = rw (← c.type_of.ensures) c.both.ensures

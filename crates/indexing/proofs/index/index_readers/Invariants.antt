@@ -1,0 +1,12 @@
+-- A turn for each record: a record begins at `at`, or the file ends there. Assumes nothing.
+use Prim.Native.Nat.{◌-◌}
+use lib.ListN.{length}
+use Rattle.rows.specs.Edition.{labels}
+use Rattle.records.specs.Walk.{Walk}
+use Rattle.indexing.proofs.index.index_readers.Given as goal
+
+abbrev pub invariant-loop-at : goal.invariant-loop-at
+invariant-loop-at l = Walk (labels l.wide) l.file l.at
+
+abbrev pub decreases-loop-at : goal.decreases-loop-at
+decreases-loop-at l = length l.file - l.at

@@ -1,2 +1,0 @@
--- What a caller has of an answer. Assumes nothing.
-pub mod Reading

@@ -1,0 +1,7 @@
+-- A label joined to a variable. Assumes nothing.
+use borrow.Author.Rules.{rules}
+use Rattle.joins.proofs.give_label.Goals as goal
+
+pub returns : goal.returns
+returns c =
+    rw c.row.ensures.value at c.give.ensures

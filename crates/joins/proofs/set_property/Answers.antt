@@ -1,0 +1,7 @@
+-- A label joined to a property. Assumes nothing.
+use borrow.Author.Rules.{rules}
+use Rattle.joins.proofs.set_property.Goals as goal
+
+pub returns : goal.returns
+returns c =
+    rw c.property.ensures.value at c.give.ensures

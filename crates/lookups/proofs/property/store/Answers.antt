@@ -1,0 +1,10 @@
+-- A store: to the labels that are not built-in. Assumes nothing.
+use borrow.Author.Rules.{rules}
+use Rattle.lookups.proofs.Properties.{store-applies}
+use Rattle.lookups.proofs.property.store.Goals as goal
+
+pub returns : goal.returns
+returns c =
+    let a = c.args in
+    λ p lays. store-applies a.x.0 a.a.0 a.key c.requires.0.apart lays c.held-held.ensures c.built_ins.ensures c.without-s.ensures
+    c.held-value.ensures (c.spread_stored.ensures p lays)

@@ -1,0 +1,19 @@
+-- A set joined to the inputs of functions: the loop takes the labels one by one. Assumes nothing.
+use borrow.Author.Rules.{rules}
+use mathlib.Core.Path.{◌≡◌, refl, sym, ◌∙◌}
+use lib.ListN.{length}
+use Rattle.sets.specs.Value.{value}
+use Rattle.sets.proofs.Values.{some_left, none_left}
+use Rattle.uses.specs.Spread.{formal_row}
+use Rattle.uses.proofs.Rows.{variable-row}
+use Rattle.uses.proofs.Spreads.{Spreading, spreading-start, spreading-next, spreading-end, spread-for}
+use Rattle.uses.proofs.spread.spread_input.Given as goal
+
+abbrev pub invariant-loop-x : goal.invariant-loop-x
+invariant-loop-x l =
+    (length l.t ≡ length l.initial.t)
+    × Spreading l.wide l.o (formal_row l.formals l.j) (value l.wide l.initial.rest) (value l.wide l.rest) (value l.wide l.x) (value l.wide l.initial.least) l.initial.t l.t l.grew (value l.wide l.least)
+
+abbrev pub decreases-loop-x : goal.decreases-loop-x
+decreases-loop-x l = value l.wide l.rest
+

@@ -1,0 +1,18 @@
+-- A set joined to the rows of the names of a word: the loop takes the names one by one. Assumes nothing.
+use borrow.Author.Rules.{rules}
+use mathlib.Core.Path.{◌≡◌, refl}
+use native.Mathlib.Omega.{arith}
+use lib.ListN.{length}
+use Rattle.sets.specs.Value.{value}
+use Rattle.uses.specs.Spread.{row_after}
+use Rattle.uses.proofs.Rows.{count_small}
+use Rattle.uses.proofs.Spreads.{Spreading, spreading-start, spreading-next, spreading-end}
+use Rattle.uses.proofs.spread.spread_names.Given as goal
+
+abbrev pub invariant-loop-rest : goal.invariant-loop-rest
+invariant-loop-rest l =
+    (length l.t ≡ length l.initial.t) × Spreading l.wide l.o (row_after l.base) l.w l.rest (value l.wide l.x) (value l.wide l.initial.least) l.initial.t l.t l.grew (value l.wide l.least)
+
+abbrev pub decreases-loop-rest : goal.decreases-loop-rest
+decreases-loop-rest l = l.rest
+
