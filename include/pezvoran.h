@@ -1,6 +1,6 @@
 /* Pezvoran for C: the verdict on a statement file and the check of a finished table, for 64 labels and for 256.
-   Link with libpezvoran.a for the small edition and libpezvoran_large.a for the large one: `rt staticlib pezvoran` and `rt staticlib pezvoran_large` write
-   them to target/staticlib, and where ./install put them pkg-config knows them as pezvoran and pezvoran_large. C99 or later, or C++. */
+   Link with libpezvoran.a for the small edition and libpezvoran_large.a for the large one: `tools/build` writes them to target/staticlib, and
+   where ./install put them pkg-config knows them as pezvoran and pezvoran_large. C99 or later, or C++. */
 #ifndef PEZVORAN_H
 #define PEZVORAN_H
 

@@ -1,5 +1,5 @@
 //! Finds the archives, one for each edition, and links them: those in the folder that `PEZVORAN_LIB_DIR` names; where it is not set, those that
-//! `rt staticlib` wrote in this repository; where there are none, those of an installation that pkg-config knows. Build scripts of packages that use this one
+//! `tools/build` wrote in this repository; where there are none, those of an installation that pkg-config knows. Build scripts of packages that use this one
 //! are told the folder (DEP_PEZVORAN_FOLDER), whether it is this repository's own (DEP_PEZVORAN_OWN, yes or no), and a hash of both archives by which they see
 //! that these are still the same (DEP_PEZVORAN_HASH: the standard library's of their bytes, one after the other).
 
@@ -14,7 +14,7 @@ const EDITIONS: [&str; 2] = ["pezvoran", "pezvoran_large"];
 
 const ADVICE: &str = "\
 The archives libpezvoran.a and libpezvoran_large.a are not found. One of these helps:
-- in the repository of Pezvoran, run `rt staticlib pezvoran` and `rt staticlib pezvoran_large`;
+- in the repository of Pezvoran, run `tools/build pezvoran pezvoran_large`;
 - install Pezvoran by its script `./install`, where pkg-config finds it (PKG_CONFIG_PATH);
 - set PEZVORAN_LIB_DIR to the folder that has them.";
 
@@ -53,7 +53,7 @@ fn repository() -> PathBuf {
     Path::new(&env::var_os("CARGO_MANIFEST_DIR").expect("cargo sets it")).join("../..")
 }
 
-/// Where `rt staticlib` writes the archives.
+/// Where `tools/build` writes the archives.
 fn written() -> PathBuf {
     repository().join("target/staticlib")
 }

@@ -57,9 +57,8 @@
 //!
 //! The statement file itself is in [`format`](mod@format): its kinds and fields, what a record is refused for in words, and a writer.
 //!
-//! (What C has to see to, alignment and that file and table do not overlap, is in the types here.) The archives that `rt staticlib pezvoran` and
-//! `rt staticlib pezvoran_large` write are linked in: those of the folder that `PEZVORAN_LIB_DIR` names, else of this repository, else of an installation that
-//! pkg-config finds.
+//! (What C has to see to, alignment and that file and table do not overlap, is in the types here.) The archives that
+//! `tools/build` writes are linked in: those of the folder that `PEZVORAN_LIB_DIR` names, else of this repository, else of an installation that pkg-config finds.
 
 mod answer;
 mod archive;

@@ -81,7 +81,7 @@ fn archives_that_are_older_than_their_sources_are_warned_of() {
     assert_eq!(
         ran.said,
         "packages/command/build: warning: crates/a/src/lib.rt is newer than target/staticlib/libpezvoran_large.a, which may not be of these sources: \
-         rt staticlib pezvoran_large\n"
+         tools/build pezvoran_large\n"
     );
     build("/elsewhere").prints(0, "cargo build\n");
 }
