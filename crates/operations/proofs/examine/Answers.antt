@@ -10,7 +10,6 @@ use Rattle.format.specs.Sheet.{Sheet}
 use Rattle.format.specs.Reading.{read_file}
 use Rattle.answer.specs.Outcome.{refused, holds}
 use Rattle.operations.proofs.Laws.{arrays-read, held_in, some-held, not_none, check-short, check-refused, check-gap, check-clear, check-held}
-use borrow.Author.Rules.{rules}
 use Rattle.operations.proofs.examine.Goals as goal
 
 pub returns-then-table-word_count : goal.returns-then-table-word_count

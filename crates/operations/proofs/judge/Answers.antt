@@ -9,7 +9,6 @@ use Rattle.format.specs.Reading.{read_file}
 use Rattle.answer.specs.Outcome.{refused}
 use Rattle.operations.specs.Judgment.{judgment}
 use Rattle.operations.proofs.Laws.{arrays-read, held_in, short-outcome, short-words, refused-outcome, refused-words, judged-outcome, left-words}
-use borrow.Author.Rules.{rules}
 use Rattle.operations.proofs.judge.Goals as goal
 
 pub returns-then-table-full : goal.returns-then-table-full
@@ -37,6 +36,9 @@ returns c =
     let r = c.read-r.ensures in
     let full : word_count a.wide ≤ length t = omega (arith, c.if-table-full.false, c.word_count-full.ensures.value) in
     let ok : (read_file (labels a.wide) xs).refusal ≡ 0 = sym r.refusal_value ∙ c.if-no-ne0.false in
-    let held = held_in a.wide _ (read_file (labels a.wide) xs).sheet c.held-held.ensures (ap (λ (z : Sheet). z.forbidden) r.sheet_value) in record { result_value = c.judged.ensures
+    let held = held_in a.wide _ (read_file (labels a.wide) xs).sheet c.held-held.ensures (ap (λ (z : Sheet). z.forbidden) r.sheet_value) in record {
+      result_value = c.judged.ensures
           ∙ ap₂ (judgment (labels a.wide)) held c.count.ensures.value
-          ∙ sym (judged-outcome a.wide xs t full ok _ c.solve.ensures.least); table_after = left-words a.wide xs t full ok _ (λ i. (c.slice_known-2-1.given i).fits) c.solve.ensures }
+          ∙ sym (judged-outcome a.wide xs t full ok _ c.solve.ensures.least);
+      table_after = left-words a.wide xs t full ok _ (λ i. (c.slice_known-2-1.given i).fits) c.solve.ensures;
+    }

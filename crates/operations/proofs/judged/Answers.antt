@@ -1,7 +1,6 @@
 -- `operations::judged` meets its contract. Assumes nothing.
 use mathlib.Core.Path.{refl, sym, ◌∙◌}
 use Rattle.operations.proofs.Laws.{some-held}
-use borrow.Author.Rules.{rules}
 use Rattle.operations.proofs.judged.Goals as goal
 
 pub returns-then-is_empty : goal.returns-then-is_empty

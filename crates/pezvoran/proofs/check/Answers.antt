@@ -3,7 +3,6 @@ use mathlib.Core.Path.{sym, ap, subst, ◌∙◌}
 use native.Mathlib.Omega.{arith}
 use Rattle.answer.specs.Outcome.{packed, Ranged}
 use Rattle.verdicts.proofs.Ranged.{check-ranged}
-use borrow.Author.Rules.{rules}
 use Rattle.pezvoran.proofs.check.Goals as goal
 
 pub pack-requires : goal.pack-requires

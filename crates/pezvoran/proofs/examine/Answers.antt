@@ -2,7 +2,6 @@
 use mathlib.Core.Path.{ap, ◌∙◌}
 use Rattle.rows.proofs.Run.{rows-one}
 use Rattle.verdicts.specs.Check.{check_outcome}
-use borrow.Author.Rules.{rules}
 use Rattle.pezvoran.proofs.examine.Goals as goal
 
 pub returns : goal.returns

@@ -8,7 +8,6 @@ use Rattle.answer.specs.Outcome.{packed, Ranged}
 use Rattle.verdicts.specs.Verdict.{verdict_outcome}
 use Rattle.verdicts.proofs.Ranged.{verdict-ranged}
 use Rattle.verdicts.proofs.Words.{words-one}
-use borrow.Author.Rules.{rules}
 use Rattle.pezvoran.proofs.verdict.Goals as goal
 
 pub pack-requires : goal.pack-requires

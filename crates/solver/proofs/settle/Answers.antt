@@ -13,10 +13,8 @@ use Rattle.analysis.proofs.Fit.{rules-fit}
 use Rattle.records.proofs.Walks.{five-labels}
 use Rattle.uses.specs.Use.{Lent}
 use Rattle.uses.proofs.Use.{reached-length}
-use Rattle.uses.proofs.Rows.{read-room}
-use Rattle.whole.proofs.Solving.{left}
 use Rattle.passes.proofs.Arrays.{known}
-use Rattle.solver.proofs.Passing.{Turned, turned-first, turned-settled, turned, turned-less}
+use Rattle.solver.proofs.Passing.{turned-first, turned-settled, turned, turned-less}
 use Rattle.solver.proofs.settle.Goals as goal
 
 -- the rules fit the table
@@ -37,8 +35,7 @@ search_on-requires c = (lent c.args.wide _ _ (reached-length c.loop-again.invari
 pub pass-again-requires : goal.pass-again-requires
 pass-again-requires c =
     let here = known c.requires.2 c.lay_out.ensures.lays c.lay_out.ensures.returns_of in
-    let inv = c.loop-again.invariant in
-    (
+    let inv = c.loop-again.invariant in (
       lent c.args.wide _ _ (reached-length (c.search_on.ensures here inv.old inv.since inv.remembers).reached)
           (lent c.args.wide _ _ (reached-length inv.solving.reached) c.requires.0),
       c.requires.1,

@@ -1,5 +1,4 @@
 -- The loop goes on while turns are left. Assumes nothing.
-use borrow.Author.Rules.{rules}
 use mathlib.Core.Path.{sym}
 use mathlib.Core.Bool.{true≢false}
 use Rattle.turns.proofs.goes_on.Goals as goal

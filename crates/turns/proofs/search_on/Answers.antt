@@ -1,19 +1,11 @@
 -- The search: each turn adds only what the rules tell. Assumes nothing.
-use borrow.Author.Rules.{rules}
-use mathlib.Core.Path.{◌≡◌, refl, ◌∙◌}
-use mathlib.Core.Bool.{true}
+use mathlib.Core.Path.{refl, ◌∙◌}
 use mathlib.Core.List.{[]}
 use native.Mathlib.Omega.{arith}
-use Prim.Native.Nat.{◌-◌, ◌≤◌, ◌<◌}
-use lib.ListN.{length}
-use Rattle.rows.specs.Edition.{labels, word_count}
+use Rattle.rows.specs.Edition.{labels}
 use Rattle.format.proofs.Arrays.{padded}
 use Rattle.format.proofs.File.{readable-read}
 use Rattle.uses.proofs.Rows.{read-room}
-use Rattle.host.specs.Lays.{arrays}
-use Rattle.passes.specs.Order.{Known}
-use Rattle.program.specs.Program.{program_in}
-use Rattle.turns.specs.Steps.{StepsFor}
 use Rattle.turns.proofs.Turning.{steps-none, steps_on, steps-forget}
 use Rattle.turns.proofs.search_on.Goals as goal
 
@@ -48,12 +40,11 @@ pub use_part-in_part-requires : goal.use_part-in_part-requires
 use_part-in_part-requires c = (rw c.loop-on.invariant.0 c.requires.0, c.requires.1, c.next-at.ensures c.index_file.ensures)
 
 pub use_at-as_whole-requires : goal.use_at-as_whole-requires
-use_at-as_whole-requires c =
-    (
-      rw (c.use_part-in_part.ensures.t_len_unchanged ∙ c.loop-on.invariant.0) c.requires.0,
-      c.requires.1,
-      c.whole_at.ensures _ _ (c.next-at.ensures c.index_file.ensures),
-    )
+use_at-as_whole-requires c = (
+  rw (c.use_part-in_part.ensures.t_len_unchanged ∙ c.loop-on.invariant.0) c.requires.0,
+  c.requires.1,
+  c.whole_at.ensures _ _ (c.next-at.ensures c.index_file.ensures),
+)
 
 pub note_written-requires : goal.note_written-requires
 note_written-requires c =
@@ -82,13 +73,12 @@ pub loop-on-smaller : goal.loop-on-smaller
 loop-on-smaller c = omega (arith, c.loop-on.invariant.1 c.loop-on-test.true)
 
 pub loop-on-preserved : goal.loop-on-preserved
-loop-on-preserved c =
-    (
-      c.use_at-as_whole.ensures.t_len_unchanged ∙ c.use_part-in_part.ensures.t_len_unchanged ∙ c.loop-on.invariant.0,
-      c.goes_on-on.ensures,
-      λ known. steps_on (c.loop-on.invariant.2 known) (steps_on (c.use_part-in_part.ensures.by_index _ known.lays)
-          (steps_on (c.use_at-as_whole.ensures.steps_for known) (steps-forget c.forget_if.ensures))),
-    )
+loop-on-preserved c = (
+  c.use_at-as_whole.ensures.t_len_unchanged ∙ c.use_part-in_part.ensures.t_len_unchanged ∙ c.loop-on.invariant.0,
+  c.goes_on-on.ensures,
+  λ known. steps_on (c.loop-on.invariant.2 known) (steps_on (c.use_part-in_part.ensures.by_index _ known.lays)
+      (steps_on (c.use_at-as_whole.ensures.steps_for known) (steps-forget c.forget_if.ensures))),
+)
 
 pub shape_of-t : goal.shape_of-t
 shape_of-t c = c.loop-on.invariant.0

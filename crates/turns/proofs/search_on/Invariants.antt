@@ -1,20 +1,13 @@
 -- The search: each turn adds only what the rules tell. Assumes nothing.
-use borrow.Author.Rules.{rules}
-use mathlib.Core.Path.{◌≡◌, refl, ◌∙◌}
+use mathlib.Core.Path.{◌≡◌}
 use mathlib.Core.Bool.{true}
-use mathlib.Core.List.{[]}
-use native.Mathlib.Omega.{arith}
-use Prim.Native.Nat.{◌-◌, ◌≤◌, ◌<◌}
+use Prim.Native.Nat.{◌-◌, ◌<◌}
 use lib.ListN.{length}
-use Rattle.rows.specs.Edition.{labels, word_count}
-use Rattle.format.proofs.Arrays.{padded}
-use Rattle.format.proofs.File.{readable-read}
-use Rattle.uses.proofs.Rows.{read-room}
+use Rattle.rows.specs.Edition.{labels}
 use Rattle.host.specs.Lays.{arrays}
 use Rattle.passes.specs.Order.{Known}
 use Rattle.program.specs.Program.{program_in}
 use Rattle.turns.specs.Steps.{StepsFor}
-use Rattle.turns.proofs.Turning.{steps-none, steps_on, steps-forget}
 use Rattle.turns.proofs.search_on.Given as goal
 
 abbrev pub invariant-loop-on : goal.invariant-loop-on
@@ -25,4 +18,3 @@ invariant-loop-on l =
 abbrev pub decreases-loop-on : goal.decreases-loop-on
 decreases-loop-on l =
     100000000 - l.turns
-

@@ -1,5 +1,4 @@
 -- Unions forgotten: the pairs are as good as before. Assumes nothing.
-use borrow.Author.Rules.{rules}
 use Rattle.kept.proofs.Remembers.{remembers-since}
 use Rattle.turns.proofs.single.forget_if.Goals as goal
 

@@ -1,5 +1,4 @@
 -- Nothing, where a part was used; else what it was. Assumes nothing.
-use borrow.Author.Rules.{rules}
 use native.Mathlib.Omega.{arith}
 use Rattle.turns.proofs.single.whole_at.Goals as goal
 
