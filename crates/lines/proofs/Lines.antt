@@ -100,11 +100,11 @@ module _ {wide : Bool} {o : ℕ} {p : Program} where
       → row < row_count (labels wide) → held ≡ get_or (table_of wide t) row 0 → Tellings wide p chains t held 0 on keeps kept
       → ((m : ℕ) → On first m ↔ ((m ≡ l) ⊎ Memᴰ m (parents_of kind))) → s ≡ union first on → Joined (words wide) o row s t u grew
       → Applies wide o p (tells wide (chain_by kind l)) t keeps u kept grew
-  chain-applies {row} {held} {on} {s} {t} {u} {keeps} {kept} {grew} first kind l w e i is_held_lem tell is-first is-s j =
+  chain-applies {row} {held} {on} {s} {t} {u} {keeps} {kept} {grew} first kind l w e i is_held tell is-first is-s j =
       record { uses = used; memory = λ old since m. remembers-on w (used old since m).only (tell o old since m).1 }
     where
       holds : held ≡ get_or (table_of wide t) (number (labels wide) (chain l)) 0
-      holds = is_held_lem ∙ ap (λ (x : ℕ). get_or (table_of wide t) x 0) e
+      holds = is_held ∙ ap (λ (x : ℕ). get_or (table_of wide t) x 0) e
 
       joins : (q : ℕ) → On first q ⊎ On on q → On s q
       joins q (inl h) = rw is-s (on-left first on q h)

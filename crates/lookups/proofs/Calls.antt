@@ -156,12 +156,12 @@ module _ {wide : Bool} {o : ℕ} {p : Program} {host : List ℕ} (k y c : ℕ) (
   -- no function is held
   pub calls-nothing : {held fs : ℕ} {t keeps : List ℕ} → Lays wide p host → held ≡ get_or (table_of wide t) c 0 → fs ≡ bit_and held (functions_in wide host) → fs ≡ 0
       → Applies wide o p (tells wide (calling p k y c inputs.this.0 (arguments inputs))) t keeps t keeps false
-  calls-nothing {held} {fs} {t} lays is_held_lem is-fs z = applies-nothing none
+  calls-nothing {held} {fs} {t} lays is_held is-fs z = applies-nothing none
     where
       none : (a : Table) → Within a (table_of wide t) → (r l : ℕ) → Told (labels wide) a (calling p k y c inputs.this.0 (arguments inputs)) r l → ⊥
       none a i r l h =
           let w = when-told (labels wide) a (entering p k y inputs.this.0 (arguments inputs) h.0) (is_function p.sheet h.0) r l h.2 in
-          let f : On fs h.0 = among held lays is-fs h.0 (rw is_held_lem (i c h.0 h.1)) w.0 in
+          let f : On fs h.0 = among held lays is-fs h.0 (rw is_held (i c h.0 h.1)) w.0 in
           empty-off h.0 (rw z at f)
 
   pub call-applies : {held fs : ℕ} {t u v w keeps kept left last : List ℕ} {a b d : Bool} → Apart wide o → Lays wide p host → held ≡ get_or (table_of wide t) c 0
@@ -169,7 +169,7 @@ module _ {wide : Bool} {o : ℕ} {p : Program} {host : List ℕ} (k y c : ℕ) (
       → Applies wide o p (gathering wide p y handed fs) u kept v left b
       → Applies wide o p (gathering wide p (number (labels wide) (thrown k)) throws fs) v left w last d
       → Applies wide o p (tells wide (calling p k y c inputs.this.0 (arguments inputs))) t keeps w last (a || (b || d))
-  call-applies {held} {fs} {t} apart lays is_held_lem is-fs one two three =
+  call-applies {held} {fs} {t} apart lays is_held is-fs one two three =
       applies-for apart forth back (applies-then apart one (applies-then apart two three))
     where
       forth : (a : Table) → Within (table_of wide t) a → (r l : ℕ) → Enters wide p k y fs inputs a r l
@@ -177,7 +177,7 @@ module _ {wide : Bool} {o : ℕ} {p : Program} {host : List ℕ} (k y c : ℕ) (
       forth a i r l h =
           let g = entered wide p k y fs inputs a r l h in (
             g.0,
-            i c g.0 (rw is_held_lem at (held_of wide host held is-fs g.0 g.1)),
+            i c g.0 (rw is_held at (held_of wide host held is-fs g.0 g.1)),
             told-when (labels wide) a (entering p k y inputs.this.0 (arguments inputs) g.0) (is_function p.sheet g.0) r l (functions-are held lays is-fs g.0 g.1) g.2,
           )
 
@@ -185,7 +185,7 @@ module _ {wide : Bool} {o : ℕ} {p : Program} {host : List ℕ} (k y c : ℕ) (
           → Enters wide p k y fs inputs a r l
       back a i r l h =
           let w = when-told (labels wide) a (entering p k y inputs.this.0 (arguments inputs) h.0) (is_function p.sheet h.0) r l h.2 in
-          enters wide p k y fs inputs a r l h.0 (among held lays is-fs h.0 (rw is_held_lem (i c h.0 h.1)) w.0) w.1
+          enters wide p k y fs inputs a r l h.0 (among held lays is-fs h.0 (rw is_held (i c h.0 h.1)) w.0) w.1
 
 -- ---- new
 
@@ -195,7 +195,7 @@ module _ {wide : Bool} {o : ℕ} {p : Program} (y c x l : ℕ) where
       → Applies wide o p (gathering wide p (number (labels wide) (chain l)) (under 3) on) v kept w left d
       → Applies wide o p (tells wide (object_rule y c x l)) t keeps w left (a || (b || d))
   unfolding names_of
-  object-applies {held} {on} {t} {u} {v} apart gave same is_held_lem tell found =
+  object-applies {held} {on} {t} {u} {v} apart gave same is_held tell found =
       applies-then apart (applies-plain apart (λ a b i r l h. h) gave)
       (applies-then apart (applies-plain apart (λ a b i r l h. (h.0, h.1, i x l h.2)) same)
       (applies-through chains apart tell forth back found))
@@ -208,7 +208,7 @@ module _ {wide : Bool} {o : ℕ} {p : Program} (y c x l : ℕ) where
           → gathering wide p (number (labels wide) (chain l)) (under 3) on a r q → Found a r q
       forth a i source r q h =
           let g = source h.2.0 h.2.1 in
-          (g.0, i c g.0 (rw is_held_lem at g.1), (h.2.0, i (number (labels wide) (chain g.0)) h.2.0 g.2, (h.0, h.1, three h.2.2.1 h.2.2.2)))
+          (g.0, i c g.0 (rw is_held at g.1), (h.2.0, i (number (labels wide) (chain g.0)) h.2.0 g.2, (h.0, h.1, three h.2.2.1 h.2.2.2)))
         where
           three : {n : ℕ} → Memᴰ n (3 ∷ []) → Has a (number (labels wide) (property h.2.0 n)) q → Has a (number (labels wide) (property h.2.0 3)) q
           three {n} i j = elim (Memᴰ.cases_cons i) [ inl e ↦ rw e at j | inr m ↦ absurd (Memᴰ.not-nil m) ]
@@ -216,7 +216,7 @@ module _ {wide : Bool} {o : ℕ} {p : Program} (y c x l : ℕ) where
       back : (a : Table) → Within a (table_of wide v) → ((f m : ℕ) → On held f → Tells wide p chains a f m → On on m) → (r q : ℕ) → Found a r q
           → gathering wide p (number (labels wide) (chain l)) (under 3) on a r q
       back a i all r q h =
-          (h.2.2.0, h.2.2.1, (h.2.0, all h.0 h.2.0 (rw is_held_lem (i c h.0 h.1)) h.2.1, (3, Memᴰ.head refl, h.2.2.2)))
+          (h.2.2.0, h.2.2.1, (h.2.0, all h.0 h.2.0 (rw is_held (i c h.0 h.1)) h.2.1, (3, Memᴰ.head refl, h.2.2.2)))
 
 -- the object, and then the call
 pub new-applies : {wide : Bool} {o : ℕ} {p : Program} {t u v keeps kept left : List ℕ} {a b : Bool} (k y c x l : ℕ) (args : List ℕ) → Apart wide o

@@ -38,7 +38,7 @@ Finding wide x a f =
 
 module _ {wide : Bool} {o : ℕ} {p : Program} {host : List ℕ} (k x : ℕ) where
   module _ {held on strings values fs : ℕ} {t keeps kept left last : List ℕ} (apart : Apart wide o) (lays : Lays wide p host)
-      (is_held_lem : held ≡ get_or (table_of wide t) x 0) (chained : Tellings wide p chains t held 0 on keeps kept)
+      (is_held : held ≡ get_or (table_of wide t) x 0) (chained : Tellings wide p chains t held 0 on keeps kept)
       (first : Tellings wide p (under 1) t on 0 strings kept left) (second : Tellings wide p (under 2) t on 0 values left last)
       (is-fs : fs ≡ bit_and (union strings values) (functions_in wide host)) where
     -- what was told, counted from earlier words
@@ -66,7 +66,7 @@ module _ {wide : Bool} {o : ℕ} {p : Program} {host : List ℕ} (k x : ℕ) whe
         along : (m n : ℕ) → On on m → Memᴰ n (1 ∷ 2 ∷ []) → Has (table_of wide t) (number (labels wide) (property m n)) f → Finding wide x a f
         along m n j mem g =
             let c = w.on-chains.source m j in
-            (c.0, i x c.0 (rw is_held_lem at c.1), (m, i (number (labels wide) (chain c.0)) m c.2, (n, mem, i (number (labels wide) (property m n)) f g)))
+            (c.0, i x c.0 (rw is_held at c.1), (m, i (number (labels wide) (chain c.0)) m c.2, (n, mem, i (number (labels wide) (property m n)) f g)))
 
         side : On strings f ⊎ On values f → Finding wide x a f
         side (inl g) =
@@ -84,7 +84,7 @@ module _ {wide : Bool} {o : ℕ} {p : Program} {host : List ℕ} (k x : ℕ) whe
         m = h.2.0
 
         j : On on m
-        j = told-all w.on-chains h.0 m (rw is_held_lem (i x h.0 h.1)) h.2.1
+        j = told-all w.on-chains h.0 m (rw is_held (i x h.0 h.1)) h.2.1
 
         side : (h.2.2.0 ≡ 1) ⊎ Memᴰ h.2.2.0 (2 ∷ []) → On (union strings values) f
         side (inl e) = on-left strings values f (told-all w.under_first m f j (1, Memᴰ.head refl, rw e at h.2.2.2))
@@ -143,7 +143,7 @@ module _ {wide : Bool} {o : ℕ} {p : Program} {host : List ℕ} (k x : ℕ) whe
                 → Told (labels wide) a (converting p k x) r l
             go (inl h) =
                 let e : r ≡ this_of p.sheet h.0 = h.2.0 ∙ first-formal h.0 in
-                tell h.0 h.1 (inl (rw (← e) h.2.1, e, i x l (rw is_held_lem at h.2.2)))
+                tell h.0 h.1 (inl (rw (← e) h.2.1, e, i x l (rw is_held at h.2.2)))
             go (inr h) = tell h.2.0 h.2.1 (inr (h.0, h.1, h.2.2))
 
         back : {a : Table} → Was a → Within a (table_of wide t) → (r l : ℕ) → Told (labels wide) a (converting p k x) r l
@@ -158,5 +158,5 @@ module _ {wide : Bool} {o : ℕ} {p : Program} {host : List ℕ} (k x : ℕ) whe
 
             go : Told (labels wide) a (Entered p k x q.function) r l
                 → spreading wide p (input 0) fs held a r l ⊎ gathering wide p (number (labels wide) (thrown k)) throws fs a r l
-            go (inl g) = inl (q.function, j, (g.1 ∙ sym (first-formal q.function), rw g.1 g.0, rw is_held_lem (i x l g.2)))
+            go (inl g) = inl (q.function, j, (g.1 ∙ sym (first-formal q.function), rw g.1 g.0, rw is_held (i x l g.2)))
             go (inr g) = inr (g.0, g.1, (q.function, j, g.2))

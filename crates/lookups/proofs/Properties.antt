@@ -34,13 +34,13 @@ module _ {wide : Bool} {o : ℕ} {p : Program} (y x w key : ℕ) where
   pub load-applies : {s held one on : ℕ} {t u v keeps kept left : List ℕ} {a b : Bool} → Apart wide o → Used wide o (giving x w) t t u a
       → held ≡ get_or (table_of wide u) x 0 → one ≡ 2 ^ w → s ≡ union held one → Tellings wide p chains u s 0 on keeps kept
       → Applies wide o p (gathering wide p y (under key) on) u kept v left b → Applies wide o p (tells wide (loading p y x key w)) t keeps v left (a || b)
-  load-applies {s} {held} {one} {on} {t} {u} apart gave is_held_lem is_one is-s tell found =
+  load-applies {s} {held} {one} {on} {t} {u} apart gave is_held is_one is-s tell found =
       applies-then apart (applies-plain apart (λ a b i r l h. h) gave) (applies-through chains apart tell forth back found)
     where
       -- what a label of s finds
       of_one : (a : Table) (r l m : ℕ) → On held m ⊎ On one m → Within (table_of wide u) a → Told (labels wide) a (looking p y key m) r l
           → Told (labels wide) a (looking p y key w) r l ⊎ ((q : ℕ) × Has a x q × Told (labels wide) a (looking p y key q) r l)
-      of_one a r l m (inl e) i h = inr (m, i x m (rw is_held_lem at e), h)
+      of_one a r l m (inl e) i h = inr (m, i x m (rw is_held at e), h)
       of_one a r l m (inr e) i h = inl (subst (λ (q : ℕ). Told (labels wide) a (looking p y key q) r l) (single-only w m (rw is_one at e)) h)
 
       forth : (a : Table) → Within (table_of wide u) a → ((m : ℕ) → On on m → (l : ℕ) × On s l × Tells wide p chains (table_of wide u) l m) → (r l : ℕ)
@@ -59,7 +59,7 @@ module _ {wide : Bool} {o : ℕ} {p : Program} (y x w key : ℕ) where
           → Told (labels wide) a (looking p y key w) r l ⊎ ((q : ℕ) × Has a x q × Told (labels wide) a (looking p y key q) r l)
           → gathering wide p y (under key) on a r l
       back a i all r l (inl h) = of-looked a all r l w (rw is-s (on-right held one w (rw is_one (on-single w)))) h
-      back a i all r l (inr h) = of-looked a all r l h.0 (rw is-s (on-left held one h.0 (rw is_held_lem (i x h.0 h.1)))) h.2
+      back a i all r l (inr h) = of-looked a all r l h.0 (rw is-s (on-left held one h.0 (rw is_held (i x h.0 h.1)))) h.2
 
 -- a part of a load, in place: one join of what some of the labels that the object holds find
 module _ {wide : Bool} {p : Program} {host : List ℕ} (y x w key : ℕ) where
@@ -68,11 +68,11 @@ module _ {wide : Bool} {p : Program} {host : List ℕ} (y x w key : ℕ) where
       → Gathered (row_from base) (table_of wide t) (table_of wide t) s on → names ≡ names_in host key
       → Gathered (under_names names) (table_of wide t) (table_of wide t) on more → Joined (words wide) 0 y more t u grew
       → Reached wide 0 (tells wide (loading p y x key w)) t u
-  part-reached {s} {held} {base} {on} {names} {more} {t} part lays k i is_held_lem is-s is_base found is-names gathered joined =
+  part-reached {s} {held} {base} {on} {names} {more} {t} part lays k i is_held is-s is_base found is-names gathered joined =
       adds y more start i told joined
     where
       holds : (q : ℕ) → On s q → Has (table_of wide t) x q
-      holds q e = rw is_held_lem at (on-meet held part q (rw is-s at e)).0
+      holds q e = rw is_held at (on-meet held part q (rw is-s at e)).0
 
       told : (l : ℕ) → On more l → 0 < y → Told (labels wide) (table_of wide t) (loading p y x key w) y l
       told l h z =
@@ -86,7 +86,7 @@ module _ {wide : Bool} {o : ℕ} {p : Program} {host : List ℕ} (x a key : ℕ)
   pub store-applies : {s held fixed value : ℕ} {t u keeps kept : List ℕ} {grew : Bool} → Apart wide o → Lays wide p host → held ≡ get_or (table_of wide t) x 0
       → fixed ≡ built_ins_in wide host → s ≡ difference held fixed → value ≡ get_or (table_of wide t) a 0
       → Applies wide o p (spreading wide p (stored key) s value) t keeps u kept grew → Applies wide o p (tells wide (storing p x key a)) t keeps u kept grew
-  store-applies {s} {held} {fixed} {value} {t} apart lays is_held_lem is-fixed is-s is-value spread = applies-for apart forth back spread
+  store-applies {s} {held} {fixed} {value} {t} apart lays is_held is-fixed is-s is-value spread = applies-for apart forth back spread
     where
       body : ℕ → Rule
       body l = over (names_of p.sheet key) (λ n. include (property l n) (variable a))
@@ -96,7 +96,7 @@ module _ {wide : Bool} {o : ℕ} {p : Program} {host : List ℕ} (x a key : ℕ)
           let m = h.0 in
           let e : On (difference held fixed) m = rw is-s at h.1 in (
             m,
-            i x m (rw is_held_lem at (on-difference held fixed m e)),
+            i x m (rw is_held at (on-difference held fixed m e)),
             told-when (labels wide) b (body m) (not (built_in p.sheet m)) r l
                 (untrue (built_in p.sheet m) (λ g. difference-off held fixed m e (rw is-fixed ((lays.built-ins m).1 g))))
                 (h.2.0.0, h.2.0.1, (positive h.2.0.2 h.2.1, h.2.0.2, i a l (rw is-value at h.2.2))),
@@ -109,7 +109,7 @@ module _ {wide : Bool} {o : ℕ} {p : Program} {host : List ℕ} (x a key : ℕ)
       back b i r l h =
           let m = h.0 in
           let w = when-told (labels wide) b (body m) (not (built_in p.sheet m)) r l h.2 in
-          (m, rw is-s (kept (difference-on held fixed m (rw is_held_lem (i x m h.1))) w.0), ((w.1.0, w.1.1, w.1.2.1), positive w.1.2.1 w.1.2.0, rw is-value (i a l w.1.2.2)))
+          (m, rw is-s (kept (difference-on held fixed m (rw is_held (i x m h.1))) w.0), ((w.1.0, w.1.1, w.1.2.1), positive w.1.2.1 w.1.2.0, rw is-value (i a l w.1.2.2)))
         where
           positive : {q : ℕ} → r ≡ q → 0 < q → 0 < r
           positive e z = rw e z

@@ -183,17 +183,17 @@ module _ (p : Program) where
       let b : ℕ × say.Statement = (at, say.property l n m) in
       let s = reached b before after is in
       let e = start_is b before after is in
-      let in_List = labels (listed b before after is at (say.property l n m) (Memᴰ.head refl)) in
+      let in_list = labels (listed b before after is at (say.property l n m) (Memᴰ.head refl)) in
       let x = object (place_in ls m) in
       let i = place_in ls l in
       let j-is : number_among l n (pushed before []) ≡ j = omega (arith, number_is [] number) in
-      let there : i < length s.objects = omega (arith, (place-of l ls in_List.0).0, length-start p ls, (grown-passed p ls before [] (unfilled p ls)).more-objects) in (
+      let there : i < length s.objects = omega (arith, (place-of l ls in_list.0).0, length-start p ls, (grown-passed p ls before [] (unfilled p ls)).more-objects) in (
         i,
         place_in ls m,
-        stands b before after is l in_List.0,
-        stands b before after is m in_List.1,
+        stands b before after is l in_list.0,
+        stands b before after is m in_list.1,
         subst (λ (z : State). (object_at z i).values n j ≡ some x) (sym e)
-            (pair-on after (property l n m ∷ pushed before []) (set_object s i (with_value (object_at s i) n (number_among l n (pushed before [])) x)) in_List.0
+            (pair-on after (property l n m ∷ pushed before []) (set_object s i (with_value (object_at s i) n (number_among l n (pushed before [])) x)) in_list.0
             (rw (is-property l n m) (omega arith)) (λ at a q. listed b before after is at a (Memᴰ.tail q)) last
             (rw (j-is, get_or-set_same s.objects i (with_value (object_at s i) n j x) no_object there, eq-eqb n n refl, eq-eqb j j refl))),
       )
