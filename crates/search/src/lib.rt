@@ -2,6 +2,8 @@
 // the readers of variables that grew (`readers`), one variable after the other, and at last a round over the file for all else that grew (`next`, `wakes`; crate
 // growth). Nothing is promised but that a record begins where the search says so: what it misses costs time, since a whole pass finds it.
 
+#![tactic(auto)]
+
 pub mod next;
 pub mod readers;
 mod wakes;
