@@ -17,7 +17,6 @@ use Rattle.format.specs.Reading.{Readable}
 use Rattle.program.specs.Statement as say
 use Rattle.program.specs.Program.{Program, Guest, statements, is_function, formals_of, program_in}
 use Rattle.analysis.specs.Rules.{looking, passing, entering, calling, rule_of, parents_of, chain_rule, guest_chains, rules}
-use Rattle.analysis.proofs.Examples  -- first: a wrong rule is to meet an example before a proof that no longer fits it
 use Rattle.analysis.proofs.Stated.{Keyed, AllBelow, Stated, AllStated}
 use Rattle.analysis.proofs.Proper.{AllProper, Proper, readable-proper}
 use Rattle.analysis.proofs.Returned.{returns-below}

@@ -14,7 +14,6 @@ use Rattle.format.proofs.Effect.{not_equal}
 use Rattle.format.proofs.Ready.{Made}
 use Rattle.format.proofs.Later.{declared-below}
 use Rattle.format.proofs.Readable.{readable-ready, formal-below}
-use Rattle.program.specs.Statement as say
 use Rattle.analysis.proofs.Stated.{Declared, AllStated, stated-append, start-declared, top-declared, guest-declared, host-stated, guest-stated}
 use Rattle.program.specs.Program.{Program, Guest, guests_statements, host_statements, guests_of, program_of, statements, program_in}
 

@@ -1,4 +1,6 @@
 // The answer of an operation, and the one word in which the C interface hands it over.
+#![tactic(auto)]
+
 ghost use Rattle.std.specs.Prelude.{◌≡◌};
 ghost use Rattle.answer.specs.Outcome.{refused, packed, Ranged};
 ghost use Rattle.answer.specs.Answer.{outcome_of};

@@ -1,5 +1,7 @@
 // One use of the rules of each statement, by its variant (crates joins and lookups): what the rule tells of the table at 0 is joined to the table at o, in
 // place or into a second table.
+#![tactic(auto)]
+
 ghost use Rattle.std.specs.Prelude.{◌≡◌, length};
 ghost use Rattle.rows.specs.Edition.{labels};
 ghost use Rattle.program.specs.Program.{Program};

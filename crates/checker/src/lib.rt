@@ -1,4 +1,6 @@
 // The check's look at a table that is given: one use of all rules on a copy of it shows the lowest row that lacks something.
+#![tactic(auto)]
+
 ghost use Rattle.std.specs.Prelude.{◌≡◌, ◌*◌, ◌≤◌, length};
 ghost use Rattle.rows.specs.Edition.{labels, word_count};
 ghost use Rattle.rules.specs.Gap.{gap};

@@ -1,5 +1,7 @@
 // What the check does before and after its one use of all rules: the given table is cleaned and written twice, and once the second was added to, the lowest
 // row in which it holds more than the first is looked for.
+#![tactic(auto)]
+
 ghost use Rattle.std.specs.Prelude.{◌≡◌, cond, not, ◌*◌, ◌^◌, ◌≤◌, ◌<◌, eqb, length};
 ghost use Rattle.words.specs.Words.{union};
 ghost use Rattle.rows.specs.Edition.{labels, word_count};

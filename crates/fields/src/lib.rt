@@ -1,6 +1,8 @@
 // The test of a field's byte: whether it is good in its class, judged by the label types and the variables' owners so far, and the number with which it
 // is refused (document 01, "What each operation says no to"). The classes are those of the crate layout. `wide` says which edition it is: how many
 // labels there are, and how many of the label types count.
+#![tactic(auto)]
+
 ghost use Rattle.std.specs.Prelude.{◌≡◌, ◌&&◌, ◌||◌, ◌<◌, ◌≤◌, get_or, length, take, leb, eqb};
 ghost use Rattle.rows.specs.Edition.{labels};
 ghost use Rattle.layout.specs.Layout.{class_of};

@@ -1,4 +1,6 @@
 // One use of the rules that are a few joins and remember nothing, beside the paper's words: named, grant, property, held, copy, make, throw, catch.
+#![tactic(auto)]
+
 ghost use Rattle.std.specs.Prelude.{◌<◌, length};
 ghost use Rattle.rows.specs.Edition.{labels};
 ghost use Rattle.rows.specs.Row.{variable, property, thrown, row_count};

@@ -1,5 +1,7 @@
 // What the code remembers of a pass, in one array: pairs of a set of labels and the union, or the meet, over it. A record that asks for the union over the same
 // labels as the one before it, which is what most records do, then costs a few tests of words. Nothing here reads the table.
+#![tactic(auto)]
+
 ghost use Rattle.std.specs.Prelude.{◌≡◌, true, List, ℕ, ◌≤◌, ◌<◌};
 ghost use Rattle.layout.specs.Key.{Key};
 ghost use Rattle.sets.specs.Value.{value};

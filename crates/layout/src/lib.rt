@@ -1,6 +1,8 @@
 // The kinds of record of a statement file, as one table: how long each body is, and of which class each of its bytes is (document 01,
 // "The statement file"). A new kind of record is a new row here and in specs/Layout.antt, and a digit of its length. The reader copies both tables
 // once and walks them.
+#![tactic(auto)]
+
 ghost use Rattle.std.specs.Prelude.{◌≡◌};
 ghost use Rattle.layout.specs.Layout.{body_length, body_lengths, field_codes};
 ghost use Rattle.layout.specs.Key.{is_key};

@@ -1,5 +1,7 @@
 // Rows of the lent words. `o` is the place at which a table begins and `wide` says that a row has four words, else one. No index is
 // the product of two variables.
+#![tactic(auto)]
+
 ghost use Rattle.std.specs.Prelude.{◌≡◌, true, false, ◌+◌, ◌≤◌, length};
 ghost use Rattle.rows.specs.Run.{number};
 ghost use Rattle.rows.specs.Edition.{words};

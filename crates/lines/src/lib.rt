@@ -1,4 +1,6 @@
 // The rules that belong to no record: the chains of declared objects, and the guest's prototypes.
+#![tactic(auto)]
+
 ghost use Rattle.std.specs.Prelude.{◌≡◌, ◌⊎◌, ◌↔◌, ℕ, ◌<◌, length, take};
 ghost use mathlib.Core.List.{[], ◌∷◌, Memᴰ};
 ghost use Rattle.words.specs.Words.{bit};

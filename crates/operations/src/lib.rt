@@ -1,6 +1,8 @@
 // The operations in either edition, 64 labels in rows of one word or 256 in rows of four: bytes and words in, an answer out. The answer is an enum; one
 // definition gives document 01's number and values for each of its cases (crate answer), and the contracts go by it. Each edition's operations for C are a
 // crate of their own (pezvoran, pezvoran_large), so that the compiler makes code for its width alone.
+#![tactic(auto)]
+
 ghost use Rattle.std.specs.Prelude.{◌≡◌, ◌*◌, ◌<◌, ◌≤◌, length};
 ghost use Rattle.std.specs.Int.Count.{count_trailing_zeros};
 ghost use Rattle.rows.specs.Edition.{labels, words, word_count};

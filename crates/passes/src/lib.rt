@@ -1,4 +1,6 @@
 // One pass: every rule of a file once, those that no record says and those of the records.
+#![tactic(auto)]
+
 ghost use Rattle.std.specs.Prelude.{length};
 ghost use Rattle.rows.specs.Edition.{labels};
 ghost use Rattle.format.specs.Reading.{Readable};

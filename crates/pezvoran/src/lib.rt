@@ -1,4 +1,6 @@
 // The operations of the edition of 64 labels, as a C program calls them: bytes and a table in, one word out.
+#![tactic(auto)]
+
 ghost use Rattle.std.specs.Prelude.{◌≡◌, length};
 ghost use Rattle.answer.specs.Outcome.{packed};
 ghost use Rattle.answer.specs.Answer.{outcome_of};

@@ -1,4 +1,6 @@
 // The operations of the edition of 256 labels, as a C program calls them (document 02, Req 13): bytes and words in, four words to a row, one word out.
+#![tactic(auto)]
+
 ghost use Rattle.std.specs.Prelude.{◌≡◌};
 ghost use Rattle.rows.specs.Run.{room_for, rows_of};
 ghost use Rattle.answer.specs.Outcome.{packed};

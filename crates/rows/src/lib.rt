@@ -1,5 +1,7 @@
 // Variables, labels and names are each a kind to themselves, and the rows of the table are computed from them. The contracts equate
 // each row with its number in specs/Row.antt, for the edition of 64 labels or of 256.
+#![tactic(auto)]
+
 ghost use Rattle.std.specs.Prelude.{◌≡◌, ◌<◌, ◌≤◌};
 ghost use Rattle.rows.specs.Row.{variable, property, chain, thrown, number, row_count};
 ghost use Rattle.rows.specs.Edition.{labels, word_count};

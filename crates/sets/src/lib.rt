@@ -1,5 +1,7 @@
 // A set of labels as four words by value. `wide` says whether all four count (256 labels) or the first alone (64 labels); what stands in
 // the others then is of no matter, so that no function asks anything of a set. No function branches on `wide` more than once.
+#![tactic(auto)]
+
 ghost use Rattle.std.specs.Prelude.{◌≡◌, ℕ, ◌*◌, ◌^◌, ◌<◌, ◌≤◌, eqb};
 ghost use Rattle.std.specs.Int.Bits.{bit_and};
 ghost use Rattle.std.specs.Int.Count.{count_trailing_zeros};

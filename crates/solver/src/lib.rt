@@ -1,5 +1,7 @@
 // The least table of a readable file, on the words that are lent: whole passes over its rules in place until one adds nothing, with a search between them where
 // a file needs many.
+#![tactic(auto)]
+
 ghost use Rattle.std.specs.Prelude.{◌≡◌, ◌≤◌, length};
 ghost use Rattle.rows.specs.Edition.{labels, word_count};
 ghost use Rattle.rules.specs.Table.{empty_table};

@@ -10,7 +10,6 @@ use Rattle.rows.specs.Row.{variable, thrown, chain, property}
 use Rattle.rules.specs.Rule.{include, each, ◌also◌}
 use Rattle.rules.specs.Table.{Table, Has}
 use Rattle.rules.specs.Told.{Closed}
-use Rattle.program.specs.Statement as say
 use Rattle.program.specs.Program.{Program, is_function, this_of, formals_of, returns_of}
 use Rattle.analysis.specs.Rules.{entering, calling, making, converting}
 use Rattle.machine.specs.State.{Value, primitive, object, Object, Caller, Frame, State, no_frame, frame_in, object_at, frame_at, or_primitive, with_object, with_frame}

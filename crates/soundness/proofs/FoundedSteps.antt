@@ -9,7 +9,6 @@ use native.Mathlib.Omega.{arith}
 use native.Mathlib.Decide.{dec_lt}
 use lib.ListN.{length, replicate, length-append, get_or-eq_default}
 use Rattle.format.specs.Sheet.{type_of, built_in}
-use Rattle.program.specs.Statement as say
 use Rattle.program.specs.Program.{Program, is_function, this_of, formals_of}
 use Rattle.machine.specs.State.{Value, primitive, object, Object, Caller, Frame, State, no_frame, object_at, frame_at, or_primitive, with_object, with_frame, set_object, with_value}
 use Rattle.machine.specs.Lookup.{nearest_of, or_else, find, find_of}

@@ -1,4 +1,6 @@
 // Rules that are one join, and unions over the labels of a set: a function reads the table at 0 and joins to the table at o of the same lent words.
+#![tactic(auto)]
+
 ghost use Rattle.std.specs.Prelude.{◌≡◌, ◌+◌, ◌^◌, ◌≤◌, ◌<◌, length, get_or};
 ghost use Rattle.rows.specs.Edition.{labels, word_count};
 ghost use Rattle.rows.specs.Row.{row_count};

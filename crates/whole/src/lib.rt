@@ -1,4 +1,6 @@
 // The table as a whole: cleared, and counted.
+#![tactic(auto)]
+
 ghost use Rattle.std.specs.Prelude.{◌≡◌, ◌≤◌, length, get_or};
 ghost use Rattle.std.specs.Int.Bits.{bit_and};
 ghost use Rattle.rows.specs.Edition.{labels, word_count};

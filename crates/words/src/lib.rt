@@ -1,5 +1,7 @@
 // A word as a set of labels: bit l of the word says whether label l is in the set. These are the only functions that touch bits,
 // so that no contract above this crate speaks of shifts.
+#![tactic(auto)]
+
 ghost use Rattle.std.specs.Prelude.{◌≡◌, ◌/◌, ◌^◌, ◌<◌};
 ghost use Rattle.std.specs.Int.Bits.{bit_and};
 ghost use Rattle.std.specs.Int.Count.{count_trailing_zeros};

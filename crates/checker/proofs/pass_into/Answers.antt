@@ -1,5 +1,4 @@
 -- A pass before which nothing was kept. Assumes nothing.
-use borrow.Author.Rules.{rules}
 use mathlib.Core.List.{[]}
 use Rattle.format.proofs.Arrays.{padded}
 use Rattle.kept.proofs.Remembers.{remembers-none}

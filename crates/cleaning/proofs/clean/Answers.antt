@@ -1,15 +1,13 @@
 -- The invariant: the rows below r of both tables are cleaned ones. Assumes nothing.
 use borrow.Author.Rules.{rules}
-use mathlib.Core.Path.{◌≡◌, ◌∙◌}
+use mathlib.Core.Path.{◌∙◌}
 use native.Mathlib.Omega.{arith}
 use lib.ListN.{length}
-use Prim.Native.Nat.{◌-◌, ◌≤◌, ◌<◌}
+use Prim.Native.Nat.{◌<◌}
 use Rattle.rows.specs.Edition.{labels}
 use Rattle.rows.specs.Row.{row_count}
-use Rattle.sets.specs.Value.{value}
-use Rattle.lent.specs.Table.{table_at}
 use Rattle.uses.proofs.Rows.{row_read}
-use Rattle.cleaning.proofs.Copies.{CleansBelow, cleans-first, cleans-next, cleans-all}
+use Rattle.cleaning.proofs.Copies.{cleans-first, cleans-next, cleans-all}
 use Rattle.cleaning.proofs.clean.Goals as goal
 
 pub write_both-requires : goal.write_both-requires

@@ -1,15 +1,10 @@
 -- The invariant: the rows below r of both tables are cleaned ones. Assumes nothing.
-use borrow.Author.Rules.{rules}
-use mathlib.Core.Path.{◌≡◌, ◌∙◌}
-use native.Mathlib.Omega.{arith}
+use mathlib.Core.Path.{◌≡◌}
 use lib.ListN.{length}
-use Prim.Native.Nat.{◌-◌, ◌≤◌, ◌<◌}
-use Rattle.rows.specs.Edition.{labels}
-use Rattle.rows.specs.Row.{row_count}
+use Prim.Native.Nat.{◌-◌, ◌≤◌}
 use Rattle.sets.specs.Value.{value}
 use Rattle.lent.specs.Table.{table_at}
-use Rattle.uses.proofs.Rows.{row_read}
-use Rattle.cleaning.proofs.Copies.{CleansBelow, cleans-first, cleans-next, cleans-all}
+use Rattle.cleaning.proofs.Copies.{CleansBelow}
 use Rattle.cleaning.proofs.clean.Given as goal
 
 abbrev pub invariant-loop-r : goal.invariant-loop-r
@@ -18,4 +13,3 @@ invariant-loop-r l =
 
 abbrev pub decreases-loop-r : goal.decreases-loop-r
 decreases-loop-r l = l.n - l.r
-

@@ -2,10 +2,10 @@
 use borrow.Author.Rules.{rules}
 use mathlib.Core.Path.{◌≡◌}
 use native.Mathlib.Omega.{arith}
-use Prim.Native.Nat.{◌-◌, ◌≤◌, ◌<◌}
+use Prim.Native.Nat.{◌<◌}
 use Rattle.rows.specs.Edition.{labels}
 use Rattle.sets.specs.Value.{value}
-use Rattle.cleaning.proofs.Copies.{DeclaresBelow, declares-none, declares-next}
+use Rattle.cleaning.proofs.Copies.{declares-none, declares-next}
 use Rattle.cleaning.proofs.declared.Goals as goal
 
 pub loop-l-init : goal.loop-l-init

@@ -2,11 +2,11 @@
 use borrow.Author.Rules.{rules}
 use native.Mathlib.Omega.{arith}
 use lib.ListN.{length}
-use Prim.Native.Nat.{◌-◌, ◌≤◌, ◌<◌}
+use Prim.Native.Nat.{◌<◌}
 use Rattle.rows.specs.Edition.{labels}
 use Rattle.rows.specs.Row.{row_count}
 use Rattle.uses.proofs.Rows.{row_read, row_fits}
-use Rattle.cleaning.proofs.Lowest.{SameBelow, same_none, same_next, grown-here, grown-nowhere}
+use Rattle.cleaning.proofs.Lowest.{same_none, same_next, grown-here, grown-nowhere}
 use Rattle.cleaning.proofs.lowest_grown.Goals as goal
 
 pub loop-low-init : goal.loop-low-init

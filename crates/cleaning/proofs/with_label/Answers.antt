@@ -1,5 +1,4 @@
 -- One label more, where it is declared. Assumes nothing.
-use borrow.Author.Rules.{rules}
 use borrow.Author.Tests.{eq-eqb, ne_eqb}
 use native.Mathlib.Omega.{arith}
 use Rattle.rows.proofs.Edition.{labels-small}

@@ -1,5 +1,4 @@
 -- The row of the first table, then that of the second. Assumes nothing.
-use borrow.Author.Rules.{rules}
 use native.Mathlib.Omega.{arith}
 use lib.ListN.{length}
 use Rattle.uses.proofs.Rows.{row_read, row_fits}

@@ -2,7 +2,6 @@
 use mathlib.Core.Path.{sym}
 use lib.Seq.{length-take-le}
 use Rattle.fields.specs.Judging.{field_refusal}
-use borrow.Author.Rules.{rules}
 use Rattle.fields.proofs.field_refusal.Goals as goal
 
 pub slice_bounds-counted-end : goal.slice_bounds-counted-end

@@ -3,7 +3,6 @@ use Prim.Native.Nat.{◌≤◌}
 use Rattle.layout.proofs.Table.{class-rest}
 use Rattle.fields.proofs.Laws.{beyond}
 use Rattle.format.specs.Fields.{good}
-use borrow.Author.Rules.{rules}
 use Rattle.fields.proofs.is_good.Goals as goal
 
 pub returns-in-0 : goal.returns-in-0

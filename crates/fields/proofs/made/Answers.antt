@@ -1,5 +1,4 @@
 -- `fields::made` meets its contract. Assumes nothing.
-use borrow.Author.Rules.{rules}
 use Rattle.fields.proofs.made.Goals as goal
 
 pub returns : goal.returns

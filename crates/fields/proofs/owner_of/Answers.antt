@@ -3,7 +3,6 @@ use mathlib.Core.Path.{sym}
 use native.Mathlib.Omega.{arith}
 use lib.ListN.{get_or-eq_default}
 use Rattle.fields.proofs.Laws.{get_or-inside}
-use borrow.Author.Rules.{rules}
 use Rattle.fields.proofs.owner_of.Goals as goal
 
 pub returns-then-v-owners : goal.returns-then-v-owners

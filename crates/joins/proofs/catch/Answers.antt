@@ -1,5 +1,4 @@
 -- What a scope throws joined to a variable. Assumes nothing.
-use borrow.Author.Rules.{rules}
 use Rattle.joins.proofs.catch.Goals as goal
 
 pub returns : goal.returns

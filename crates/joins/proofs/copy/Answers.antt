@@ -1,5 +1,4 @@
 -- One variable joined to another. Assumes nothing.
-use borrow.Author.Rules.{rules}
 use Rattle.joins.proofs.copy.Goals as goal
 
 pub returns : goal.returns

@@ -1,5 +1,4 @@
 -- A label joined to a variable. Assumes nothing.
-use borrow.Author.Rules.{rules}
 use Rattle.joins.proofs.give_label.Goals as goal
 
 pub returns : goal.returns

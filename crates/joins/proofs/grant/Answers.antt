@@ -1,5 +1,4 @@
 -- The bag and a granted variable. Assumes nothing.
-use borrow.Author.Rules.{rules}
 use Rattle.joins.proofs.grant.Goals as goal
 
 pub returns : goal.returns

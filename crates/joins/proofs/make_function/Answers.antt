@@ -1,5 +1,4 @@
 -- The function and its prototype property. Assumes nothing.
-use borrow.Author.Rules.{rules}
 use Rattle.uses.proofs.Use.{used-since, used-then}
 use Rattle.joins.proofs.make_function.Goals as goal
 

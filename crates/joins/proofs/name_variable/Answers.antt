@@ -1,5 +1,4 @@
 -- A named variable and its property. Assumes nothing.
-use borrow.Author.Rules.{rules}
 use Rattle.uses.proofs.Rows.{labels-some, variable-row, property-row}
 use Rattle.joins.proofs.name_variable.Goals as goal
 

@@ -1,5 +1,4 @@
 -- Two rows, each joined to the other. Assumes nothing.
-use borrow.Author.Rules.{rules}
 use Rattle.uses.proofs.Use.{reached-read, used-since, used-then}
 use Rattle.joins.proofs.same.Goals as goal
 

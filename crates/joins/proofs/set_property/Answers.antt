@@ -1,5 +1,4 @@
 -- A label joined to a property. Assumes nothing.
-use borrow.Author.Rules.{rules}
 use Rattle.joins.proofs.set_property.Goals as goal
 
 pub returns : goal.returns

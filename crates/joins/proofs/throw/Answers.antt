@@ -1,5 +1,4 @@
 -- A variable joined to what a scope throws. Assumes nothing.
-use borrow.Author.Rules.{rules}
 use Rattle.joins.proofs.throw.Goals as goal
 
 pub returns : goal.returns

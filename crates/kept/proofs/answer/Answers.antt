@@ -1,5 +1,4 @@
 -- The union of what was kept and what was read. Assumes nothing.
-use borrow.Author.Rules.{rules}
 use mathlib.Core.Logic.{inl, inr}
 use mathlib.Core.Path.{refl}
 use Rattle.kept.proofs.answer.Goals as goal

@@ -1,6 +1,4 @@
 -- The three ways in which a pair can be of use to a union, or not. Assumes nothing.
-use borrow.Author.Rules.{rules}
-use borrow.Author.Tests.{not-false}
 use mathlib.Core.Path.{refl}
 use Rattle.sets.proofs.Values.{is_none}
 use Rattle.kept.specs.Pairs.{all}
@@ -17,20 +15,18 @@ pub with_of-v-requires : goal.with_of-v-requires
 with_of-v-requires c = c.is_kept.ensures c.if-not-is_kept.false
 
 pub returns-then-is_within : goal.returns-then-is_within
-returns-then-is_within c =
-    (
-      asks-part (c.is_kept.ensures c.if-not-is_kept.false) c.set_of-a.ensures c.with_of-v.ensures
-          c.is_within.ensures.value c.if-is_within.true c.without-rest.ensures,
-      is_none _ c.is_empty-known.ensures,
-    )
+returns-then-is_within c = (
+  asks-part (c.is_kept.ensures c.if-not-is_kept.false) c.set_of-a.ensures c.with_of-v.ensures
+      c.is_within.ensures.value c.if-is_within.true c.without-rest.ensures,
+  is_none _ c.is_empty-known.ensures,
+)
 
 pub returns-then-is_within-2 : goal.returns-then-is_within-2
-returns-then-is_within-2 c =
-    (
-      asks-held (c.is_kept.ensures c.if-not-is_kept.false) c.set_of-a.ensures c.with_of-v.ensures
-          c.is_within-2.ensures.value c.if-is_within-2.true c.none-none.ensures c.without-rest.ensures,
-      is_none _ c.is_empty-known.ensures,
-    )
+returns-then-is_within-2 c = (
+  asks-held (c.is_kept.ensures c.if-not-is_kept.false) c.set_of-a.ensures c.with_of-v.ensures
+      c.is_within-2.ensures.value c.if-is_within-2.true c.none-none.ensures c.without-rest.ensures,
+  is_none _ c.is_empty-known.ensures,
+)
 
 pub returns : goal.returns
 returns c =

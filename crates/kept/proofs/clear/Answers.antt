@@ -2,8 +2,6 @@
 use borrow.Author.Rules.{rules}
 use mathlib.Core.Path.{◌≡◌}
 use native.Mathlib.Omega.{arith}
-use Prim.Native.Nat.{◌-◌, ◌≤◌}
-use Rattle.kept.specs.Pairs.{Cleared}
 use Rattle.kept.proofs.Pairs.{cleared-start, cleared-next}
 use Rattle.kept.proofs.clear.Goals as goal
 

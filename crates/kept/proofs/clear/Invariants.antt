@@ -1,10 +1,6 @@
 -- Pairs emptied one by one. Assumes nothing.
-use borrow.Author.Rules.{rules}
-use mathlib.Core.Path.{◌≡◌}
-use native.Mathlib.Omega.{arith}
 use Prim.Native.Nat.{◌-◌, ◌≤◌}
 use Rattle.kept.specs.Pairs.{Cleared}
-use Rattle.kept.proofs.Pairs.{cleared-start, cleared-next}
 use Rattle.kept.proofs.clear.Given as goal
 
 abbrev pub invariant-loop-pair : goal.invariant-loop-pair
@@ -12,4 +8,3 @@ invariant-loop-pair l = (l.from ≤ l.pair) × (l.pair ≤ l.to) × Cleared l.wi
 
 abbrev pub decreases-loop-pair : goal.decreases-loop-pair
 decreases-loop-pair l = l.to - l.pair
-

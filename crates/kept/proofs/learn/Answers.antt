@@ -1,6 +1,4 @@
 -- What is kept of a spread: a wider pair, the pair anew, or the pair as it was. Assumes nothing.
-use borrow.Author.Rules.{rules}
-use borrow.Author.Tests.{not-false}
 use mathlib.Core.Path.{refl}
 use Rattle.kept.specs.Pairs.{same}
 use Rattle.kept.proofs.Pairs.{learns-wider, learns-anew}

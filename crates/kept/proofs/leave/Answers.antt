@@ -1,6 +1,4 @@
 -- The labels whose rows hold the set already are passed over. Assumes nothing.
-use borrow.Author.Rules.{rules}
-use borrow.Author.Tests.{not-false}
 use mathlib.Core.Path.{refl}
 use Rattle.kept.specs.Pairs.{every}
 use Rattle.kept.proofs.Pairs.{leaves-some}

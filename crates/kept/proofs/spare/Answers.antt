@@ -1,6 +1,5 @@
 -- The labels of the kept set are left out where the kept union is held. Assumes nothing.
 use mathlib.Core.Path.{refl}
-use borrow.Author.Rules.{rules}
 use Rattle.kept.specs.Pairs.{whole}
 use Rattle.kept.proofs.Pairs.{spares-held}
 use Rattle.kept.proofs.spare.Goals as goal

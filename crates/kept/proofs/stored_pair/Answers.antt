@@ -1,5 +1,4 @@
 -- Classes, the names outside them, and names have pairs in different ranges. Assumes nothing.
-use borrow.Author.Rules.{rules}
 use native.Mathlib.Omega.{arith}
 use Rattle.layout.proofs.Keys.{key-name, key_below}
 use Rattle.kept.proofs.Slots.{slot-stored-class, slot-stored-name, slot-stored-outside}

@@ -1,9 +1,8 @@
 -- The names of a class: the invariant is that they are those below n. Assumes nothing.
 use borrow.Author.Rules.{rules}
 use mathlib.Core.Path.{◌≡◌}
-use Prim.Native.Nat.{◌-◌, ◌≤◌}
 use native.Mathlib.Omega.{arith}
-use Rattle.laying.specs.Holds.{Holds, of_class}
+use Rattle.laying.specs.Holds.{of_class}
 use Rattle.laying.proofs.Words.{holds-none, holds-next}
 use Rattle.laying.proofs.class_names.Goals as goal
 

@@ -1,13 +1,10 @@
 -- What functions return: the invariant is that the arrays hold what the records passed return. Assumes nothing.
-use Prim.Native.Nat.{◌+◌, ◌-◌}
-use native.Mathlib.Omega.{arith}
+use Prim.Native.Nat.{◌-◌}
 use lib.ListN.{length}
 use Rattle.rows.specs.Edition.{labels}
 use Rattle.records.specs.Walk.{Walk}
 use Rattle.host.specs.Lays.{arrays}
-use Rattle.format.proofs.File.{readable-read}
-use Rattle.records.proofs.Walks.{five-labels, most-labels, walk_first, first_done, onward}
-use Rattle.laying.proofs.Collected.{Collected, empty-whole, collected-first, collected-next, collected-all}
+use Rattle.laying.proofs.Collected.{Collected}
 use Rattle.laying.proofs.collect.Given as goal
 
 abbrev pub invariant-loop-at : goal.invariant-loop-at
@@ -15,4 +12,3 @@ invariant-loop-at l = (w : Walk (labels l.wide) l.file l.at) × Collected (array
 
 abbrev pub decreases-loop-at : goal.decreases-loop-at
 decreases-loop-at l = length l.file - l.at
-

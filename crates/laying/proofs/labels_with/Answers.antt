@@ -2,12 +2,10 @@
 use borrow.Author.Rules.{rules}
 use borrow.Author.Tests.{eq-eqb, eqb-true}
 use mathlib.Core.Path.{◌≡◌}
-use mathlib.Core.Logic.{inl, inr}
-use Prim.Native.Nat.{◌-◌, ◌≤◌}
 use native.Mathlib.Omega.{arith}
 use Rattle.rows.specs.Edition.{labels}
 use Rattle.sets.specs.Value.{value}
-use Rattle.laying.specs.Holds.{Holds, has_byte}
+use Rattle.laying.specs.Holds.{has_byte}
 use Rattle.laying.proofs.Words.{holds-none, holds_on, holds-off}
 use Rattle.laying.proofs.labels_with.Goals as goal
 

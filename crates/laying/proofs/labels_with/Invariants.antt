@@ -1,14 +1,7 @@
 -- The labels with a byte: the invariant is that they are those below l. Assumes nothing.
-use borrow.Author.Rules.{rules}
-use borrow.Author.Tests.{eq-eqb, eqb-true}
-use mathlib.Core.Path.{◌≡◌}
-use mathlib.Core.Logic.{inl, inr}
 use Prim.Native.Nat.{◌-◌, ◌≤◌}
-use native.Mathlib.Omega.{arith}
-use Rattle.rows.specs.Edition.{labels}
 use Rattle.sets.specs.Value.{value}
 use Rattle.laying.specs.Holds.{Holds, has_byte}
-use Rattle.laying.proofs.Words.{holds-none, holds_on, holds-off}
 use Rattle.laying.proofs.labels_with.Given as goal
 
 abbrev pub invariant-loop-l : goal.invariant-loop-l
@@ -16,4 +9,3 @@ invariant-loop-l l = (l.l ≤ l.n) × Holds (has_byte l.bytes l.byte) l.l (value
 
 abbrev pub decreases-loop-l : goal.decreases-loop-l
 decreases-loop-l l = l.n - l.l
-

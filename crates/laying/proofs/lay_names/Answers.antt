@@ -1,10 +1,7 @@
 -- The names of each class: the invariant is that those below c are laid. Assumes nothing.
 use borrow.Author.Rules.{rules}
 use mathlib.Core.Path.{◌≡◌}
-use Prim.Native.Nat.{◌-◌, ◌≤◌}
 use native.Mathlib.Omega.{arith}
-use lib.ListN.{length}
-use Rattle.laying.specs.Holds.{Classes}
 use Rattle.laying.proofs.Words.{classes-none, classes-next}
 use Rattle.laying.proofs.lay_names.Goals as goal
 

@@ -1,11 +1,8 @@
 -- The names of each class: the invariant is that those below c are laid. Assumes nothing.
-use borrow.Author.Rules.{rules}
 use mathlib.Core.Path.{◌≡◌}
 use Prim.Native.Nat.{◌-◌, ◌≤◌}
-use native.Mathlib.Omega.{arith}
 use lib.ListN.{length}
 use Rattle.laying.specs.Holds.{Classes}
-use Rattle.laying.proofs.Words.{classes-none, classes-next}
 use Rattle.laying.proofs.lay_names.Given as goal
 
 abbrev pub invariant-loop-c : goal.invariant-loop-c
@@ -13,4 +10,3 @@ invariant-loop-c l = (l.c ≤ 8) × (length l.host ≡ 17) × Classes l.c l.mask
 
 abbrev pub decreases-loop-c : goal.decreases-loop-c
 decreases-loop-c l = 8 - l.c
-

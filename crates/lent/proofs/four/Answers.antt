@@ -2,7 +2,6 @@
 use mathlib.Core.Path.{refl}
 use Rattle.rows.specs.Run.{number}
 use Rattle.sets.specs.Value.{value}
-use borrow.Author.Rules.{rules}
 use Rattle.lent.proofs.four.Goals as goal
 
 pub returns : goal.returns

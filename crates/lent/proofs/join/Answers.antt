@@ -1,5 +1,4 @@
 -- A set joined to a row: row 0 takes nothing, a row that holds the set stays, else the union is stored. Assumes nothing.
-use borrow.Author.Rules.{rules}
 use Prim.Native.Nat.{◌+◌, ◌*◌}
 use Rattle.rows.specs.Run.{number}
 use Rattle.rows.specs.Edition.{words}

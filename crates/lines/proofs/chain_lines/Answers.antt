@@ -2,15 +2,9 @@
 use borrow.Author.Rules.{rules}
 use mathlib.Core.Path.{◌≡◌}
 use native.Mathlib.Omega.{arith}
-use Prim.Native.Nat.{◌-◌, ◌≤◌}
-use lib.ListN.{length, take}
 use Rattle.rows.specs.Edition.{labels}
-use Rattle.rules.specs.Rule.{over, chosen}
 use Rattle.format.specs.Sheet.{declared}
-use Rattle.program.specs.Program.{Program}
 use Rattle.analysis.specs.Rules.{chain_rule}
-use Rattle.uses.specs.Use.{tells}
-use Rattle.shared.specs.Apply.{Applies}
 use Rattle.lines.proofs.Lines.{lines_none, lines_next}
 use Rattle.lines.proofs.chain_lines.Goals as goal
 
@@ -22,12 +16,11 @@ declared_line-more-requires c =
     (rw c.loop-l.invariant.0 c.requires, rw c.labels-count.ensures.0 at c.loop-l-test.true)
 
 pub loop-l-preserved : goal.loop-l-preserved
-loop-l-preserved c =
-    (
-      search rules,
-      search rules,
-      λ p e. lines_next (declared p.sheet) (chain_rule p.sheet) c.loop-l.l c.requires.apart (c.loop-l.invariant.2 p e) (c.declared_line-more.ensures p e),
-    )
+loop-l-preserved c = (
+  search rules,
+  search rules,
+  λ p e. lines_next (declared p.sheet) (chain_rule p.sheet) c.loop-l.l c.requires.apart (c.loop-l.invariant.2 p e) (c.declared_line-more.ensures p e),
+)
 
 pub returns : goal.returns
 returns c =

@@ -1,7 +1,5 @@
 -- The chains of all declared labels, one after the other. Assumes nothing.
-use borrow.Author.Rules.{rules}
 use mathlib.Core.Path.{◌≡◌}
-use native.Mathlib.Omega.{arith}
 use Prim.Native.Nat.{◌-◌, ◌≤◌}
 use lib.ListN.{length, take}
 use Rattle.rows.specs.Edition.{labels}
@@ -11,7 +9,6 @@ use Rattle.program.specs.Program.{Program}
 use Rattle.analysis.specs.Rules.{chain_rule}
 use Rattle.uses.specs.Use.{tells}
 use Rattle.shared.specs.Apply.{Applies}
-use Rattle.lines.proofs.Lines.{lines_none, lines_next}
 use Rattle.lines.proofs.chain_lines.Given as goal
 
 abbrev pub invariant-loop-l : goal.invariant-loop-l
@@ -21,4 +18,3 @@ invariant-loop-l l =
 
 abbrev pub decreases-loop-l : goal.decreases-loop-l
 decreases-loop-l l = l.count - l.l
-

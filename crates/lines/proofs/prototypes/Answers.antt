@@ -1,5 +1,4 @@
 -- The three prototypes. Assumes nothing.
-use borrow.Author.Rules.{rules}
 use native.Mathlib.Omega.{arith}
 use Rattle.sets.specs.Value.{value}
 use Rattle.lines.proofs.Lines.{low-label, on-three}

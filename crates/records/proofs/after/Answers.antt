@@ -1,6 +1,5 @@
 -- Where the next record begins: the file has room for the record here. Assumes nothing.
 use native.Mathlib.Omega.{arith}
-use borrow.Author.Rules.{rules}
 use Rattle.records.proofs.Walks.{walk-room}
 use Rattle.records.proofs.after.Goals as goal
 

@@ -1,6 +1,5 @@
 -- A variable with a name, or without. Assumes nothing.
 use mathlib.Core.Path.{refl}
-use borrow.Author.Rules.{rules}
 use borrow.Author.Tests.{eq-eqb, ne_eqb}
 use Rattle.records.proofs.named.Goals as goal
 

@@ -1,16 +1,11 @@
 -- What each kind of record says, by its own function. Assumes nothing.
-use mathlib.Core.Path.{◌≡◌, refl}
-use mathlib.Core.List.{List}
-use Prim.Native.Nat.{ℕ}
+use mathlib.Core.Path.{refl}
 use borrow.Author.Rules.{rules}
 use borrow.Author.Tests.{ne_eqb}
 use Rattle.rows.specs.Edition.{labels}
 use Rattle.program.specs.Statement.{statements_of}
-use Rattle.records.specs.Range.{InRange}
-use Rattle.records.specs.Parts.{named_in, grant_in, property_in, held_in, copy_in, load_in, store_in, make_in, make_function_in, call_in, new_in, throw_in, catch_in, convert_in}
-use Rattle.records.specs.declared.Statement.{Statement}
 use Rattle.records.specs.declared.Statement.TheVariants.{Return}
-use Rattle.records.proofs.Saying.{Says, said, named-says, grant-says, property-says, held-says, copy-says, load-says, store-says, make-says, make-function-says, call-says, new-says, return-says, throw-says, catch-says, convert-says}
+use Rattle.records.proofs.Saying.{said, named-says, grant-says, property-says, held-says, copy-says, load-says, store-says, make-says, make-function-says, call-says, new-says, return-says, throw-says, catch-says, convert-says}
 use Rattle.records.proofs.statement_of.Goals as goal
 
 pub returns-in-5 : goal.returns-in-5

@@ -1,5 +1,4 @@
 -- The labels of a word, of which there are 64 at most. Assumes nothing.
-use borrow.Author.Rules.{rules}
 use native.Mathlib.Omega.{arith}
 use Rattle.words.proofs.Laws.{count-le}
 use Rattle.sets.proofs.word_size.Goals as goal

@@ -1,11 +1,8 @@
 -- The properties of the labels of a set: the loop takes the labels one by one. Assumes nothing.
 use borrow.Author.Rules.{rules}
-use Rattle.sets.specs.Value.{value}
 use Rattle.sets.proofs.Values.{some_left, none_left}
-use Rattle.uses.specs.Use.{table_of}
-use Rattle.uses.specs.Gather.{under_names}
 use Rattle.uses.proofs.Rows.{names-fit}
-use Rattle.uses.proofs.Unions.{Adding, adding-start, adding-next, adding-end, added-whole, turn-under}
+use Rattle.uses.proofs.Unions.{adding-start, adding-next, adding-end, added-whole, turn-under}
 use Rattle.uses.proofs.gather_under.Goals as goal
 
 pub loop-rest-init : goal.loop-rest-init

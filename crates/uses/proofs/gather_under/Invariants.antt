@@ -1,11 +1,8 @@
 -- The properties of the labels of a set: the loop takes the labels one by one. Assumes nothing.
-use borrow.Author.Rules.{rules}
 use Rattle.sets.specs.Value.{value}
-use Rattle.sets.proofs.Values.{some_left, none_left}
 use Rattle.uses.specs.Use.{table_of}
 use Rattle.uses.specs.Gather.{under_names}
-use Rattle.uses.proofs.Rows.{names-fit}
-use Rattle.uses.proofs.Unions.{Adding, adding-start, adding-next, adding-end, added-whole, turn-under}
+use Rattle.uses.proofs.Unions.{Adding}
 use Rattle.uses.proofs.gather_under.Given as goal
 
 abbrev pub invariant-loop-rest : goal.invariant-loop-rest
@@ -13,4 +10,3 @@ invariant-loop-rest l = Adding (under_names l.names) (table_of l.wide l.t) (valu
 
 abbrev pub decreases-loop-rest : goal.decreases-loop-rest
 decreases-loop-rest l = value l.wide l.rest
-

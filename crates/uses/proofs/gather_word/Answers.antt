@@ -5,10 +5,7 @@ use lib.ListN.{length}
 use Prim.Native.Nat.{◌+◌, ◌<◌}
 use Rattle.rows.specs.Edition.{labels}
 use Rattle.rows.specs.Row.{row_count}
-use Rattle.sets.specs.Value.{value}
-use Rattle.uses.specs.Use.{table_of}
-use Rattle.uses.specs.Gather.{row_from}
-use Rattle.uses.proofs.Unions.{Adding, adding-start, adding-next, adding-end, turn-row}
+use Rattle.uses.proofs.Unions.{adding-start, adding-next, adding-end, turn-row}
 use Rattle.uses.proofs.Rows.{row_read, row_is, count_small}
 use Rattle.uses.proofs.gather_word.Goals as goal
 

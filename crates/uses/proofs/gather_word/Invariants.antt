@@ -1,15 +1,8 @@
 -- The rows of the labels of one word: the loop takes the labels one by one. Assumes nothing.
-use borrow.Author.Rules.{rules}
-use native.Mathlib.Omega.{arith}
-use lib.ListN.{length}
-use Prim.Native.Nat.{◌+◌, ◌<◌}
-use Rattle.rows.specs.Edition.{labels}
-use Rattle.rows.specs.Row.{row_count}
 use Rattle.sets.specs.Value.{value}
 use Rattle.uses.specs.Use.{table_of}
 use Rattle.uses.specs.Gather.{row_from}
-use Rattle.uses.proofs.Unions.{Adding, adding-start, adding-next, adding-end, turn-row}
-use Rattle.uses.proofs.Rows.{row_read, row_is, count_small}
+use Rattle.uses.proofs.Unions.{Adding}
 use Rattle.uses.proofs.gather_word.Given as goal
 
 abbrev pub invariant-loop-rest : goal.invariant-loop-rest
@@ -17,4 +10,3 @@ invariant-loop-rest l = Adding (row_from l.base) (table_of l.wide l.t) l.w (valu
 
 abbrev pub decreases-loop-rest : goal.decreases-loop-rest
 decreases-loop-rest l = l.rest
-

@@ -1,10 +1,10 @@
 -- The invariant: the first i words are 0, the others as they were. Assumes nothing.
 use borrow.Author.Rules.{rules}
-use mathlib.Core.Path.{◌≡◌, refl}
+use mathlib.Core.Path.{refl}
 use native.Mathlib.Omega.{arith}
 use lib.ListN.{length, length-set}
-use Prim.Native.Nat.{◌-◌, ◌≤◌, ◌<◌}
-use Rattle.whole.proofs.Tables.{Zeroed, zeroed-none, zeroed-next, zeroed-all}
+use Prim.Native.Nat.{◌<◌}
+use Rattle.whole.proofs.Tables.{zeroed-none, zeroed-next, zeroed-all}
 use Rattle.whole.proofs.clear.Goals as goal
 
 pub loop-i-init : goal.loop-i-init

@@ -1,10 +1,8 @@
 -- The invariant: the first i words are 0, the others as they were. Assumes nothing.
-use borrow.Author.Rules.{rules}
-use mathlib.Core.Path.{◌≡◌, refl}
-use native.Mathlib.Omega.{arith}
-use lib.ListN.{length, length-set}
-use Prim.Native.Nat.{◌-◌, ◌≤◌, ◌<◌}
-use Rattle.whole.proofs.Tables.{Zeroed, zeroed-none, zeroed-next, zeroed-all}
+use mathlib.Core.Path.{◌≡◌}
+use lib.ListN.{length}
+use Prim.Native.Nat.{◌-◌, ◌≤◌}
+use Rattle.whole.proofs.Tables.{Zeroed}
 use Rattle.whole.proofs.clear.Given as goal
 
 abbrev pub invariant-loop-i : goal.invariant-loop-i
@@ -12,4 +10,3 @@ invariant-loop-i l = (l.i ≤ l.n) × (length l.t ≡ length l.initial.t) × Zer
 
 abbrev pub decreases-loop-i : goal.decreases-loop-i
 decreases-loop-i l = l.n - l.i
-

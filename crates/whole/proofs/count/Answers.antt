@@ -1,12 +1,10 @@
 -- The invariant: the facts of the first r rows are counted. Assumes nothing.
 use borrow.Author.Rules.{rules}
-use mathlib.Core.Path.{◌≡◌}
 use native.Mathlib.Omega.{arith}
-use lib.ListN.{length, take}
-use Prim.Native.Nat.{◌*◌, ◌-◌, ◌≤◌, ◌<◌}
+use lib.ListN.{length}
+use Prim.Native.Nat.{◌<◌}
 use Rattle.rows.specs.Edition.{labels}
 use Rattle.rows.specs.Row.{row_count}
-use Rattle.rules.specs.Table.{total}
 use Rattle.rules.proofs.Table.{total-none}
 use Rattle.sets.specs.Value.{value}
 use Rattle.lent.specs.Table.{table_at}

@@ -1,17 +1,10 @@
 -- The invariant: the facts of the first r rows are counted. Assumes nothing.
-use borrow.Author.Rules.{rules}
 use mathlib.Core.Path.{◌≡◌}
-use native.Mathlib.Omega.{arith}
-use lib.ListN.{length, take}
-use Prim.Native.Nat.{◌*◌, ◌-◌, ◌≤◌, ◌<◌}
+use lib.ListN.{take}
+use Prim.Native.Nat.{◌*◌, ◌-◌, ◌≤◌}
 use Rattle.rows.specs.Edition.{labels}
-use Rattle.rows.specs.Row.{row_count}
 use Rattle.rules.specs.Table.{total}
-use Rattle.rules.proofs.Table.{total-none}
-use Rattle.sets.specs.Value.{value}
 use Rattle.lent.specs.Table.{table_at}
-use Rattle.uses.proofs.Rows.{row_read}
-use Rattle.whole.proofs.Counted.{row-most, counted_next, counted-all}
 use Rattle.whole.proofs.count.Given as goal
 
 abbrev pub invariant-loop-r : goal.invariant-loop-r
@@ -19,4 +12,3 @@ invariant-loop-r l = (l.r ≤ l.n) × (l.all ≤ 256 * l.r) × (total (labels l.
 
 abbrev pub decreases-loop-r : goal.decreases-loop-r
 decreases-loop-r l = l.n - l.r
-

@@ -1,5 +1,4 @@
 -- The forbidden labels in row 1. Assumes nothing.
-use borrow.Author.Rules.{rules}
 use mathlib.Core.Path.{ap, ◌∙◌}
 use lib.Bits.{bit_and}
 use lib.ListN.{length}

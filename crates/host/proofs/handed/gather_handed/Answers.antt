@@ -1,10 +1,7 @@
 -- What the functions of a set hand back: the loop takes them one by one. Assumes nothing.
 use borrow.Author.Rules.{rules}
-use Rattle.sets.specs.Value.{value}
 use Rattle.sets.proofs.Values.{some_left, none_left}
-use Rattle.uses.specs.Use.{table_of}
-use Rattle.uses.proofs.Unions.{Adding, adding-start, adding-next, adding-end, added-whole}
-use Rattle.host.specs.Lays.{arrays, handed_back}
+use Rattle.uses.proofs.Unions.{adding-start, adding-next, adding-end, added-whole}
 use Rattle.host.proofs.Returns.{turn-handed}
 use Rattle.host.proofs.handed.gather_handed.Goals as goal
 

@@ -1,5 +1,4 @@
 -- The four words of a function, one after the other. Assumes nothing.
-use borrow.Author.Rules.{rules}
 use Rattle.host.proofs.Returns.{handing-words}
 use Rattle.host.proofs.handed.hand_words.Goals as goal
 

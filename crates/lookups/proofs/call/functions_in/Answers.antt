@@ -1,5 +1,4 @@
 -- The functions among labels: a meet. Assumes nothing.
-use borrow.Author.Rules.{rules}
 use mathlib.Core.Path.{◌∙◌, ap}
 use Prim.Native.Nat.{ℕ}
 use lib.Bits.{bit_and}

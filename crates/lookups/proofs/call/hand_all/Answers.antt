@@ -2,14 +2,8 @@
 use borrow.Author.Rules.{rules}
 use mathlib.Core.Path.{◌≡◌, refl}
 use native.Mathlib.Omega.{arith}
-use Prim.Native.Nat.{◌-◌, ◌≤◌}
-use lib.ListN.{length}
-use Rattle.program.specs.Program.{Program}
 use Rattle.sets.specs.Value.{value}
-use Rattle.host.specs.Lays.{FormalsOf, Functions}
 use Rattle.records.specs.Say.{input_at}
-use Rattle.shared.specs.Apply.{Applies}
-use Rattle.lookups.specs.Passing.{handing_all}
 use Rattle.lookups.proofs.Calls.{hands_none, hands_next}
 use Rattle.lookups.proofs.call.hand_all.Goals as goal
 

@@ -1,7 +1,5 @@
 -- All inputs, one after the other. Assumes nothing.
-use borrow.Author.Rules.{rules}
-use mathlib.Core.Path.{◌≡◌, refl}
-use native.Mathlib.Omega.{arith}
+use mathlib.Core.Path.{◌≡◌}
 use Prim.Native.Nat.{◌-◌, ◌≤◌}
 use lib.ListN.{length}
 use Rattle.program.specs.Program.{Program}
@@ -10,7 +8,6 @@ use Rattle.host.specs.Lays.{FormalsOf, Functions}
 use Rattle.records.specs.Say.{input_at}
 use Rattle.shared.specs.Apply.{Applies}
 use Rattle.lookups.specs.Passing.{handing_all}
-use Rattle.lookups.proofs.Calls.{hands_none, hands_next}
 use Rattle.lookups.proofs.call.hand_all.Given as goal
 
 abbrev pub invariant-loop-j : goal.invariant-loop-j
@@ -20,4 +17,3 @@ invariant-loop-j l =
 
 abbrev pub decreases-loop-j : goal.decreases-loop-j
 decreases-loop-j l = 7 - l.j
-

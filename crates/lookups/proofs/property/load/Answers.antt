@@ -1,5 +1,4 @@
 -- A load: w first, then what is found along the chains. Assumes nothing.
-use borrow.Author.Rules.{rules}
 use Rattle.uses.proofs.Rows.{variable-row}
 use Rattle.uses.proofs.Use.{reached-length}
 use Rattle.lookups.proofs.Properties.{load-applies}

@@ -16,6 +16,9 @@ join-requires c =
 pub returns : goal.returns
 returns c =
     let a = c.args in
-    let here = rw c.row.ensures.value at (variable-row a.wide c.row.ensures.bound) in record { reached = λ p w lays. part-reached a.y.0 a.x.0 w a.key (value a.wide a.labels) lays c.requires.1 here c.held-held.ensures c.meet-s.ensures
+    let here = rw c.row.ensures.value at (variable-row a.wide c.row.ensures.bound) in record {
+      reached = λ p w lays. part-reached a.y.0 a.x.0 w a.key (value a.wide a.labels) lays c.requires.1 here c.held-held.ensures c.meet-s.ensures
           c.chain.ensures.value c.gather-on.ensures c.names-names.ensures c.gather_under-more.ensures
-          (rw c.row.ensures.value at c.join.ensures); t_len_unchanged = c.join.ensures.same_length }
+          (rw c.row.ensures.value at c.join.ensures);
+      t_len_unchanged = c.join.ensures.same_length;
+    }

@@ -1,5 +1,4 @@
 -- A store: to the labels that are not built-in. Assumes nothing.
-use borrow.Author.Rules.{rules}
 use Rattle.lookups.proofs.Properties.{store-applies}
 use Rattle.lookups.proofs.property.store.Goals as goal
 

@@ -2,15 +2,12 @@
 use borrow.Author.Rules.{rules}
 use mathlib.Core.Path.{◌≡◌, refl, sym, ap, ◌∙◌}
 use native.Mathlib.Omega.{arith}
-use Prim.Native.Nat.{ℕ, ◌-◌, ◌≤◌}
-use lib.ListN.{length, take}
+use Prim.Native.Nat.{ℕ}
+use lib.ListN.{take}
 use lib.Dec.{eqb}
 use Rattle.words.specs.Words.{bit}
 use Rattle.rules.specs.Rule.{every}
-use Rattle.program.specs.Program.{Program}
-use Rattle.uses.specs.Use.{tells}
-use Rattle.host.specs.Lays.{names_in, Lays, FormalsOf, ReturnsOf, arrays}
-use Rattle.shared.specs.Apply.{Applies}
+use Rattle.host.specs.Lays.{names_in}
 use Rattle.passes.proofs.Every.{applies-none, applies-same}
 use Rattle.passes.proofs.Guests.{guest_list, guest-all, guest-keyed, guest-prototyped, guest-turn}
 use Rattle.passes.proofs.guest.guest.Goals as goal
@@ -25,13 +22,12 @@ pub apply-more-requires : goal.apply-more-requires
 apply-more-requires c = (rw c.loop-i.invariant.0 c.requires, c.statement.ensures.in_bounds c.args.wide)
 
 pub loop-i-preserved : goal.loop-i-preserved
-loop-i-preserved c =
-    (
-      search rules,
-      search rules,
-      λ p lays formals returning. guest-turn p c.guest_key-key.result c.is_prototyped-prototyped.result c.loop-i.i c.statement.result (search rules)
-          c.requires.apart (c.loop-i.invariant.2 p lays formals returning) (c.statement.ensures.result_value p) (c.apply-more.ensures p lays formals returning),
-    )
+loop-i-preserved c = (
+  search rules,
+  search rules,
+  λ p lays formals returning. guest-turn p c.guest_key-key.result c.is_prototyped-prototyped.result c.loop-i.i c.statement.result (search rules)
+      c.requires.apart (c.loop-i.invariant.2 p lays formals returning) (c.statement.ensures.result_value p) (c.apply-more.ensures p lays formals returning),
+)
 
 pub returns : goal.returns
 returns c =

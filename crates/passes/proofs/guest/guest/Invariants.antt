@@ -1,18 +1,13 @@
 -- The guest's rules: the loop takes its statements one by one. Assumes nothing.
-use borrow.Author.Rules.{rules}
-use mathlib.Core.Path.{◌≡◌, refl, sym, ap, ◌∙◌}
-use native.Mathlib.Omega.{arith}
-use Prim.Native.Nat.{ℕ, ◌-◌, ◌≤◌}
+use mathlib.Core.Path.{◌≡◌}
+use Prim.Native.Nat.{◌-◌, ◌≤◌}
 use lib.ListN.{length, take}
-use lib.Dec.{eqb}
-use Rattle.words.specs.Words.{bit}
 use Rattle.rules.specs.Rule.{every}
 use Rattle.program.specs.Program.{Program}
 use Rattle.uses.specs.Use.{tells}
-use Rattle.host.specs.Lays.{names_in, Lays, FormalsOf, ReturnsOf, arrays}
+use Rattle.host.specs.Lays.{Lays, FormalsOf, ReturnsOf, arrays}
 use Rattle.shared.specs.Apply.{Applies}
-use Rattle.passes.proofs.Every.{applies-none, applies-same}
-use Rattle.passes.proofs.Guests.{guest_list, guest-all, guest-keyed, guest-prototyped, guest-turn}
+use Rattle.passes.proofs.Guests.{guest_list}
 use Rattle.passes.proofs.guest.guest.Given as goal
 
 abbrev pub invariant-loop-i : goal.invariant-loop-i
@@ -23,4 +18,3 @@ invariant-loop-i l =
 
 abbrev pub decreases-loop-i : goal.decreases-loop-i
 decreases-loop-i l = 8 - l.i
-

@@ -1,5 +1,4 @@
 -- Whether name 3 is one of the key's. Assumes nothing.
-use borrow.Author.Rules.{rules}
 use Rattle.passes.proofs.guest.is_prototyped.Goals as goal
 
 pub returns : goal.returns

@@ -1,14 +1,11 @@
 -- The rules of the records: the loop goes from record to record. Assumes nothing.
 use borrow.Author.Rules.{rules}
-use mathlib.Core.Path.{◌≡◌, refl}
+use mathlib.Core.Path.{refl}
 use native.Mathlib.Omega.{arith}
-use Prim.Native.Nat.{◌-◌}
-use lib.ListN.{length}
 use Rattle.rows.specs.Edition.{labels}
 use Rattle.format.proofs.File.{readable-read}
-use Rattle.host.specs.Lays.{Lays, FormalsOf, ReturnsOf, arrays}
 use Rattle.passes.proofs.Every.{applies-same}
-use Rattle.passes.proofs.Walked.{Walked, walked_start, walked_next, walked_end}
+use Rattle.passes.proofs.Walked.{walked_start, walked_next, walked_end}
 use Rattle.passes.proofs.walk.host_rules.Goals as goal
 
 pub loop-at-init : goal.loop-at-init
@@ -31,12 +28,11 @@ loop-at-smaller c =
     omega (arith, c.after-at.ensures, c.loop-at-test.true)
 
 pub loop-at-preserved : goal.loop-at-preserved
-loop-at-preserved c =
-    (
-      search rules,
-      walked_next c.requires.0.apart c.loop-at-test.true c.after-at.ensures c.loop-at.invariant.1
-          (λ p known. applies-same _ _ (c.statement_at-s.ensures.at_value p) (c.apply-more.ensures p known.0 known.1 known.2)),
-    )
+loop-at-preserved c = (
+  search rules,
+  walked_next c.requires.0.apart c.loop-at-test.true c.after-at.ensures c.loop-at.invariant.1
+      (λ p known. applies-same _ _ (c.statement_at-s.ensures.at_value p) (c.apply-more.ensures p known.0 known.1 known.2)),
+)
 
 pub returns : goal.returns
 returns c =

@@ -1,14 +1,9 @@
 -- The rules of the records: the loop goes from record to record. Assumes nothing.
-use borrow.Author.Rules.{rules}
-use mathlib.Core.Path.{◌≡◌, refl}
-use native.Mathlib.Omega.{arith}
+use mathlib.Core.Path.{◌≡◌}
 use Prim.Native.Nat.{◌-◌}
 use lib.ListN.{length}
-use Rattle.rows.specs.Edition.{labels}
-use Rattle.format.proofs.File.{readable-read}
 use Rattle.host.specs.Lays.{Lays, FormalsOf, ReturnsOf, arrays}
-use Rattle.passes.proofs.Every.{applies-same}
-use Rattle.passes.proofs.Walked.{Walked, walked_start, walked_next, walked_end}
+use Rattle.passes.proofs.Walked.{Walked}
 use Rattle.passes.proofs.walk.host_rules.Given as goal
 
 abbrev pub invariant-loop-at : goal.invariant-loop-at
@@ -18,4 +13,3 @@ invariant-loop-at l =
 
 abbrev pub decreases-loop-at : goal.decreases-loop-at
 decreases-loop-at l = length l.file - l.at
-

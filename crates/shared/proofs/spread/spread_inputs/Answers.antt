@@ -1,5 +1,4 @@
 -- A set spread to inputs of functions. Assumes nothing.
-use borrow.Author.Rules.{rules}
 use mathlib.Core.Path.{◌∙◌, sym}
 use Rattle.kept.specs.Promise.{input}
 use Rattle.kept.proofs.Slots.{slot-input}

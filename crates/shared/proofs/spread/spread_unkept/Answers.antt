@@ -1,7 +1,6 @@
 -- A set spread to properties under a key without a pair of its own, by the pair of class 0. Assumes nothing.
 use mathlib.Core.Path.{refl}
 use native.Mathlib.Omega.{arith}
-use borrow.Author.Rules.{rules}
 use Rattle.sets.specs.Value.{value}
 use Rattle.layout.specs.Key.{inside}
 use Rattle.kept.specs.Promise.{stored}

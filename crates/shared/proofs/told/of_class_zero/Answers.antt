@@ -1,6 +1,5 @@
 -- What is left of the names without those of class 0. Assumes nothing.
 use mathlib.Core.Path.{refl, sym, ◌∙◌}
-use borrow.Author.Rules.{rules}
 use borrow.Author.Tests.{eqb-true}
 use Rattle.shared.proofs.told.of_class_zero.Goals as goal
 

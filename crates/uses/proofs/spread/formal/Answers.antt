@@ -1,6 +1,5 @@
 -- A formal in the array. Assumes nothing.
 use mathlib.Core.Path.{refl}
-use borrow.Author.Rules.{rules}
 use Rattle.uses.proofs.spread.formal.Goals as goal
 
 pub returns : goal.returns

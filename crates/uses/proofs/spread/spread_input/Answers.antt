@@ -1,12 +1,9 @@
 -- A set joined to the inputs of functions: the loop takes the labels one by one. Assumes nothing.
 use borrow.Author.Rules.{rules}
-use mathlib.Core.Path.{◌≡◌, refl, sym, ◌∙◌}
-use lib.ListN.{length}
-use Rattle.sets.specs.Value.{value}
+use mathlib.Core.Path.{refl, sym, ◌∙◌}
 use Rattle.sets.proofs.Values.{some_left, none_left}
-use Rattle.uses.specs.Spread.{formal_row}
 use Rattle.uses.proofs.Rows.{variable-row}
-use Rattle.uses.proofs.Spreads.{Spreading, spreading-start, spreading-next, spreading-end, spread-for}
+use Rattle.uses.proofs.Spreads.{spreading-start, spreading-next, spreading-end, spread-for}
 use Rattle.uses.proofs.spread.spread_input.Goals as goal
 
 pub loop-x-init : goal.loop-x-init

@@ -1,12 +1,9 @@
 -- A set joined to the rows of the names of a word: the loop takes the names one by one. Assumes nothing.
 use borrow.Author.Rules.{rules}
-use mathlib.Core.Path.{◌≡◌, refl}
+use mathlib.Core.Path.{refl}
 use native.Mathlib.Omega.{arith}
-use lib.ListN.{length}
-use Rattle.sets.specs.Value.{value}
-use Rattle.uses.specs.Spread.{row_after}
 use Rattle.uses.proofs.Rows.{count_small}
-use Rattle.uses.proofs.Spreads.{Spreading, spreading-start, spreading-next, spreading-end}
+use Rattle.uses.proofs.Spreads.{spreading-start, spreading-next, spreading-end}
 use Rattle.uses.proofs.spread.spread_names.Goals as goal
 
 pub loop-rest-init : goal.loop-rest-init

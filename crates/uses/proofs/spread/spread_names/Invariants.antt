@@ -1,12 +1,9 @@
 -- A set joined to the rows of the names of a word: the loop takes the names one by one. Assumes nothing.
-use borrow.Author.Rules.{rules}
-use mathlib.Core.Path.{◌≡◌, refl}
-use native.Mathlib.Omega.{arith}
+use mathlib.Core.Path.{◌≡◌}
 use lib.ListN.{length}
 use Rattle.sets.specs.Value.{value}
 use Rattle.uses.specs.Spread.{row_after}
-use Rattle.uses.proofs.Rows.{count_small}
-use Rattle.uses.proofs.Spreads.{Spreading, spreading-start, spreading-next, spreading-end}
+use Rattle.uses.proofs.Spreads.{Spreading}
 use Rattle.uses.proofs.spread.spread_names.Given as goal
 
 abbrev pub invariant-loop-rest : goal.invariant-loop-rest
@@ -15,4 +12,3 @@ invariant-loop-rest l =
 
 abbrev pub decreases-loop-rest : goal.decreases-loop-rest
 decreases-loop-rest l = l.rest
-

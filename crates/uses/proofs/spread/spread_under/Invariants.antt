@@ -1,12 +1,9 @@
 -- A set joined to the properties of labels: the loop takes the labels one by one. Assumes nothing.
-use borrow.Author.Rules.{rules}
-use mathlib.Core.Path.{◌≡◌, refl}
+use mathlib.Core.Path.{◌≡◌}
 use lib.ListN.{length}
 use Rattle.sets.specs.Value.{value}
-use Rattle.sets.proofs.Values.{some_left, none_left}
 use Rattle.uses.specs.Spread.{named_rows}
-use Rattle.uses.proofs.Rows.{names-fit}
-use Rattle.uses.proofs.Spreads.{Spreading, spreading-start, spreading-next, spreading-end, spread-for, rows_of, of-rows}
+use Rattle.uses.proofs.Spreads.{Spreading}
 use Rattle.uses.proofs.spread.spread_under.Given as goal
 
 abbrev pub invariant-loop-x : goal.invariant-loop-x
@@ -16,4 +13,3 @@ invariant-loop-x l =
 
 abbrev pub decreases-loop-x : goal.decreases-loop-x
 decreases-loop-x l = value l.wide l.rest
-
