@@ -10,7 +10,7 @@ DOCS = ROOT / "docs"
 def crates():
     """The crates of crates.txt with those they use, in its order; the kit's own libraries, which have no line, are left out."""
     lines = (line.split("#")[0] for line in (ROOT / "crates.txt").read_text().splitlines())
-    uses = {name.strip(): used.split() for name, _, used in (line.partition(":") for line in lines if line.strip())}
+    uses = {name.split()[0]: used.split() for name, _, used in (line.partition(":") for line in lines if line.strip())}
     return {name: [other for other in used if other in uses] for name, used in uses.items()}
 
 

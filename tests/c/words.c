@@ -24,7 +24,7 @@ static int print_outcome(uint64_t answer)
         return LABEL | GUEST | COUNT;
     case PEZVORAN_ACCEPTED: printf("accepted %" PRIu32, pezvoran_count(answer)); return COUNT;
     case PEZVORAN_CHOICE: printf("choice %u", pezvoran_choice(answer)); return CHOICE;
-    case PEZVORAN_NONE_HELPS: printf("noneHelps"); return 0;
+    case PEZVORAN_NONE_HELPS: printf("none_helps"); return 0;
     case PEZVORAN_REFUSED: break;
     }
     if (pezvoran_number(answer) == PEZVORAN_FORBIDDEN_HELD) {

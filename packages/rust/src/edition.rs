@@ -46,14 +46,14 @@ pub enum Large {}
 
 impl Edition for Small {
     const LABELS: usize = 64;
-    const VERDICT_STACK_BYTES: usize = 50_176;
+    const VERDICT_STACK_BYTES: usize = 53_248;
     const CHECK_STACK_BYTES: usize = 72_704;
     const STACK_BYTES: usize = 98_304;
 }
 
 impl Edition for Large {
     const LABELS: usize = 256;
-    const VERDICT_STACK_BYTES: usize = 57_344;
+    const VERDICT_STACK_BYTES: usize = 60_416;
     const CHECK_STACK_BYTES: usize = 607_232;
     const STACK_BYTES: usize = 786_432;
 }

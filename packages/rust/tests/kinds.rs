@@ -15,8 +15,14 @@ fn lines_behind<'a>(text: &'a str, head: &'a str) -> impl Iterator<Item = &'a st
 
 /// A class as the definitions spell it.
 fn spelled(class: Class) -> String {
-    let name = format!("{class:?}");
-    name[..1].to_lowercase() + &name[1..]
+    let mut spelled = String::new();
+    for letter in format!("{class:?}").chars() {
+        if letter.is_uppercase() && !spelled.is_empty() {
+            spelled.push('_');
+        }
+        spelled.extend(letter.to_lowercase());
+    }
+    spelled
 }
 
 /// The classes of a row: "scope ∷ replicate 2 variable" or "[]".
@@ -79,7 +85,7 @@ fn the_classes_are_those_of_the_definition_and_refused_alike() {
     let named: Vec<&str> = constructors.map(|line| line.split(':').next().expect("a name").trim()).collect();
     assert_eq!(Class::ALL.map(spelled).to_vec(), named);
     for class in Class::ALL {
-        assert!(FIELDS.contains(&format!("\nrefusalOf {} = {}\n", spelled(class), class.refusal())), "{class:?}");
+        assert!(FIELDS.contains(&format!("\nrefusal_of {} = {}\n", spelled(class), class.refusal())), "{class:?}");
     }
 }
 

@@ -18,7 +18,7 @@ fn written(answer: Answer) -> String {
         Answer::Refused(Refusal { position, guest: Some(guest), .. }) => format!("holds {position} {guest}"),
         Answer::Refused(Refusal { number, position, guest: None }) => format!("refused {number} {position}"),
         Answer::Choice(choice) => format!("choice {choice}"),
-        Answer::NoneHelps => "noneHelps".to_string(),
+        Answer::NoneHelps => "none_helps".to_string(),
     }
 }
 
