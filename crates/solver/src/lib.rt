@@ -53,7 +53,8 @@ fn settle<'a>(
     let mut keeps = [0u64; 256];
     let mut passes: u8 = 0;
     let mut again = true;
-    while again {
+    // A label, so that the loop keeps its name in proofs whatever its test says.
+    'rounds: while again {
         search_on(
             passes, t, wide, file, &host, types, formals, &first, &second, &third, &fourth,
             &mut keeps,

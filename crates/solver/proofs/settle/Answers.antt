@@ -26,39 +26,39 @@ lent : (wide : Bool) (t u : List ℕ) → length u ≡ length t → Lent wide 0 
 lent wide t u e h = rw e h
 
 -- ---- a search and a pass
-pub loop-again-init : goal.loop-again-init
-loop-again-init c = turned-first c.args.file.now (fits c.args.wide c.args.file.now c.requires.1) c.requires.3
+pub rounds-init : goal.rounds-init
+rounds-init c = turned-first c.args.file.now (fits c.args.wide c.args.file.now c.requires.1) c.requires.3
 
 pub search_on-requires : goal.search_on-requires
-search_on-requires c = (lent c.args.wide _ _ (reached-length c.loop-again.invariant.solving.reached) c.requires.0, c.requires.1)
+search_on-requires c = (lent c.args.wide _ _ (reached-length c.rounds.invariant.solving.reached) c.requires.0, c.requires.1)
 
 pub pass-again-requires : goal.pass-again-requires
 pass-again-requires c =
     let here = known c.requires.2 c.lay_out.ensures.lays c.lay_out.ensures.returns_of in
-    let inv = c.loop-again.invariant in (
+    let inv = c.rounds.invariant in (
       lent c.args.wide _ _ (reached-length (c.search_on.ensures here inv.old inv.since inv.remembers).reached)
           (lent c.args.wide _ _ (reached-length inv.solving.reached) c.requires.0),
       c.requires.1,
     )
 
-pub loop-again-smaller : goal.loop-again-smaller
-loop-again-smaller c =
+pub rounds-smaller : goal.rounds-smaller
+rounds-smaller c =
     let a = c.args in
     let here = known c.requires.2 c.lay_out.ensures.lays c.lay_out.ensures.returns_of in
-    turned-less a.file.now (fits a.wide a.file.now c.requires.1) _ c.loop-again.invariant (c.search_on.ensures here)
+    turned-less a.file.now (fits a.wide a.file.now c.requires.1) _ c.rounds.invariant (c.search_on.ensures here)
     (λ old. c.forget.ensures 0 (program_in (labels a.wide) a.file.now) old _)
-    (c.pass-again.ensures here) c.loop-again-test.true
+    (c.pass-again.ensures here) c.rounds-test.true
 
-pub loop-again-preserved : goal.loop-again-preserved
-loop-again-preserved c =
+pub rounds-preserved : goal.rounds-preserved
+rounds-preserved c =
     let a = c.args in
     let here = known c.requires.2 c.lay_out.ensures.lays c.lay_out.ensures.returns_of in
-    turned a.file.now (fits a.wide a.file.now c.requires.1) _ c.loop-again.invariant (c.search_on.ensures here)
+    turned a.file.now (fits a.wide a.file.now c.requires.1) _ c.rounds.invariant (c.search_on.ensures here)
     (λ old. c.forget.ensures 0 (program_in (labels a.wide) a.file.now) old _)
     (c.pass-again.ensures here)
 
 pub shape_of-t : goal.shape_of-t
-shape_of-t c = reached-length c.loop-again.invariant.solving.reached
+shape_of-t c = reached-length c.rounds.invariant.solving.reached
 
 pub returns : goal.returns
-returns c = turned-settled c.args.file.now (fits c.args.wide c.args.file.now c.requires.1) c.requires.3 c.loop-again-test.false c.loop-again.invariant
+returns c = turned-settled c.args.file.now (fits c.args.wide c.args.file.now c.requires.1) c.requires.3 c.rounds-test.false c.rounds.invariant

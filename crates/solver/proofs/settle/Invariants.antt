@@ -3,8 +3,8 @@ use Rattle.whole.proofs.Solving.{left}
 use Rattle.solver.proofs.Passing.{Turned}
 use Rattle.solver.proofs.settle.Given as goal
 
-abbrev pub invariant-loop-again : goal.invariant-loop-again
-invariant-loop-again l = Turned l.wide l.file l.initial.t l.t l.keeps l.again
+abbrev pub invariant-rounds : goal.invariant-rounds
+invariant-rounds l = Turned l.wide l.file l.initial.t l.t l.keeps l.again
 
-abbrev pub decreases-loop-again : goal.decreases-loop-again
-decreases-loop-again l = left l.wide l.again l.t
+abbrev pub decreases-rounds : goal.decreases-rounds
+decreases-rounds l = left l.wide l.again l.t
