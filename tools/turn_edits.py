@@ -17,7 +17,12 @@ import subprocess
 import sys
 
 ROOT = pathlib.Path(__file__).resolve().parent.parent
-PORT_PY = "/opt/rattle/port/port.py"
+
+
+def port_py():
+    """The kit's script: it stands beside the page whose path `rt doc` prints."""
+    page = subprocess.run(["rt", "doc"], capture_output=True, text=True, check=True).stdout.strip()
+    return pathlib.Path(page).parent / "port/port.py"
 
 
 def git(*words, where=ROOT, check=True):
@@ -110,8 +115,9 @@ def make(folder, which):
             (tree / target).write_text("\n".join(lines), encoding="utf-8")
         git("-c", "user.name=edits", "-c", "user.email=edits@localhost", "commit", "-q", "--allow-empty", "-am", f"round {k}", where=tree)
         # port.py as it is, but for the folder where it keeps what its scripts said
-        code = pathlib.Path(PORT_PY).read_text(encoding="utf-8").replace('SAID = "/tmp/port-said"', f'SAID = "{folder}/said-{k}"')
-        code = code.replace("os.path.dirname(os.path.realpath(__file__))", repr(os.path.dirname(PORT_PY)))
+        script = port_py()
+        code = re.sub(r'(?m)^SAID = ".*"$', f'SAID = "{folder}/said-{k}"', script.read_text(encoding="utf-8"))
+        code = code.replace("os.path.dirname(os.path.realpath(__file__))", repr(str(script.parent)))
         (folder / f"port-{k}.py").write_text(code, encoding="utf-8")
         with open(folder / f"log-{k}", "w") as log:
             subprocess.run([sys.executable, folder / f"port-{k}.py"], cwd=tree, stdout=log, stderr=log, check=True)
