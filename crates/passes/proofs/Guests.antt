@@ -77,8 +77,11 @@ pub record Said (key : ℕ) (prototyped : Bool) (i : ℕ) (s : Statement) : Type
   pub bounded : (wide : Bool) → InBounds (labels wide) s
 
 pub said_at : {key : ℕ} {prototyped : Bool} {i : ℕ} (j : ℕ) (s : Statement) → i ≡ j → Said key prototyped j s
-    → ((p : Program) → rule_by p s ≡ both (rule_of p (guest_statement key prototyped i)) none) × ((wide : Bool) → InBounds (labels wide) s)
-said_at j s e h = rw e (h.rule, h.bounded)
+    → record {
+      result_value : (p : Program) → rule_by p s ≡ both (rule_of p (guest_statement key prototyped i)) none;
+      in_bounds : (wide : Bool) → InBounds (labels wide) s;
+    }
+said_at j s e h = rw e (record { result_value = h.rule; in_bounds = h.bounded })
 
 -- one statement more
 pub guest-turn : {wide : Bool} {o : ℕ} {t u v keeps kept left : List ℕ} {a b : Bool} (p : Program) (key : ℕ) (prototyped : Bool) (i : ℕ) (s : Statement)

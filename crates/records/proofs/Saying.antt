@@ -21,8 +21,9 @@ abbrev pub Says : ℕ → ℕ → List ℕ → Statement → Type 0
 Says L k b s = ((p : Program) → record_rule p k b ≡ rule_by p s) × InBounds L s
 
 -- a kind that is known, and a statement that is
-pub said : (L : ℕ) (b : List ℕ) {k n : ℕ} {r s : Statement} → k ≡ n → r ≡ s → InRange L k b → (InRange L n b → Says L n b s) → Says L k b r
-said L b {k} {n} {r} {s} e f i law = rw (e, f) (law (rw e at i))
+pub said : (L : ℕ) (b : List ℕ) {k n : ℕ} {r s : Statement} → k ≡ n → r ≡ s → InRange L k b → (InRange L n b → Says L n b s)
+    → record { body_value : (p : Program) → record_rule p k b ≡ rule_by p r; in_bounds : InBounds L r }
+said L b {k} {n} {r} {s} e f i law = let w = law (rw e at i) in rw (e, f) (record { body_value = w.0; in_bounds = w.1 })
 
 -- the six arguments
 six : (d : List ℕ) → length d ≡ 6 → d ≡ get_or d 0 0 ∷ get_or d 1 0 ∷ get_or d 2 0 ∷ get_or d 3 0 ∷ get_or d 4 0 ∷ get_or d 5 0 ∷ []

@@ -14,14 +14,20 @@ use Rattle.operations.proofs.judge.Goals as goal
 pub returns-then-table-full : goal.returns-then-table-full
 returns-then-table-full c =
     let a = c.args in
-    let short : length a.table.now < word_count a.wide = omega (arith, c.if-table-full.true, c.word_count-full.ensures.value) in record { result_value = sym (short-outcome a.wide a.file.now a.table.now short); table_after = sym (short-words a.wide a.file.now a.table.now (λ i. (c.slice_known-1.given i).fits) short) }
+    let short : length a.table.now < word_count a.wide = omega (arith, c.if-table-full.true, c.word_count-full.ensures.value) in record {
+      result_value = sym (short-outcome a.wide a.file.now a.table.now short);
+      table_after = sym (short-words a.wide a.file.now a.table.now (λ i. (c.slice_known-1.given i).fits) short);
+    }
 
 pub returns-then-no-ne0 : goal.returns-then-no-ne0
 returns-then-no-ne0 c =
     let a = c.args in
     let r = c.read-r.ensures in
     let full : word_count a.wide ≤ length a.table.now = omega (arith, c.if-table-full.false, c.word_count-full.ensures.value) in
-    let z : (read_file (labels a.wide) a.file.now).refusal ≡ 0 → ⊥ = (λ q. c.if-no-ne0.true (r.refusal_value ∙ q)) in record { result_value = ap₂ refused r.refusal_value r.position_value ∙ sym (refused-outcome a.wide a.file.now a.table.now full z); table_after = sym (refused-words a.wide a.file.now a.table.now full (λ i. (c.slice_known-1.given i).fits) z) }
+    let z : (read_file (labels a.wide) a.file.now).refusal ≡ 0 → ⊥ = (λ q. c.if-no-ne0.true (r.refusal_value ∙ q)) in record {
+      result_value = ap₂ refused r.refusal_value r.position_value ∙ sym (refused-outcome a.wide a.file.now a.table.now full z);
+      table_after = sym (refused-words a.wide a.file.now a.table.now full (λ i. (c.slice_known-1.given i).fits) z);
+    }
 
 pub solve-requires : goal.solve-requires
 solve-requires c =

@@ -16,4 +16,7 @@ pack-requires c = subst Ranged (sym c.judge.ensures.result_value) (verdict-range
 pub returns : goal.returns
 returns c =
     let j = c.judge.ensures in
-    let a = c.args in record { value = c.pack.ensures ∙ ap packed (j.result_value ∙ ap (λ (n : ℕ). verdict_outcome 64 n a.file.now) (div-one (length a.table.now))); table_after = j.table_after ∙ words-one a.file.now a.table.now (λ i. (c.slice_known-1.given i).fits) }
+    let a = c.args in record {
+      value = c.pack.ensures ∙ ap packed (j.result_value ∙ ap (λ (n : ℕ). verdict_outcome 64 n a.file.now) (div-one (length a.table.now)));
+      table_after = j.table_after ∙ words-one a.file.now a.table.now (λ i. (c.slice_known-1.given i).fits);
+    }

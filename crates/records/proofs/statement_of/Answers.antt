@@ -9,49 +9,49 @@ use Rattle.records.proofs.Saying.{said, named-says, grant-says, property-says, h
 use Rattle.records.proofs.statement_of.Goals as goal
 
 pub returns-in-5 : goal.returns-in-5
-returns-in-5 c = let s = said _ _ c.in-5.is c.named.ensures c.requires (named-says (labels c.args.wide) c.args.body.now) in record { body_value = s.0; in_bounds = s.1 }
+returns-in-5 c = said _ _ c.in-5.is c.named.ensures c.requires (named-says (labels c.args.wide) c.args.body.now)
 
 pub returns-in-6 : goal.returns-in-6
-returns-in-6 c = let s = said _ _ c.in-6.is c.grant.ensures c.requires (grant-says (labels c.args.wide) c.args.body.now) in record { body_value = s.0; in_bounds = s.1 }
+returns-in-6 c = said _ _ c.in-6.is c.grant.ensures c.requires (grant-says (labels c.args.wide) c.args.body.now)
 
 pub returns-in-7 : goal.returns-in-7
-returns-in-7 c = let s = said _ _ c.in-7.is c.property.ensures c.requires (property-says (labels c.args.wide) c.args.body.now) in record { body_value = s.0; in_bounds = s.1 }
+returns-in-7 c = said _ _ c.in-7.is c.property.ensures c.requires (property-says (labels c.args.wide) c.args.body.now)
 
 pub returns-in-8 : goal.returns-in-8
-returns-in-8 c = let s = said _ _ c.in-8.is c.held.ensures c.requires (held-says (labels c.args.wide) c.args.body.now) in record { body_value = s.0; in_bounds = s.1 }
+returns-in-8 c = said _ _ c.in-8.is c.held.ensures c.requires (held-says (labels c.args.wide) c.args.body.now)
 
 pub returns-in-16 : goal.returns-in-16
-returns-in-16 c = let s = said _ _ c.in-16.is c.copy.ensures c.requires (copy-says (labels c.args.wide) c.args.body.now) in record { body_value = s.0; in_bounds = s.1 }
+returns-in-16 c = said _ _ c.in-16.is c.copy.ensures c.requires (copy-says (labels c.args.wide) c.args.body.now)
 
 pub returns-in-17 : goal.returns-in-17
-returns-in-17 c = let s = said _ _ c.in-17.is c.load.ensures c.requires (load-says (labels c.args.wide) c.args.body.now) in record { body_value = s.0; in_bounds = s.1 }
+returns-in-17 c = said _ _ c.in-17.is c.load.ensures c.requires (load-says (labels c.args.wide) c.args.body.now)
 
 pub returns-in-18 : goal.returns-in-18
-returns-in-18 c = let s = said _ _ c.in-18.is c.store.ensures c.requires (store-says (labels c.args.wide) c.args.body.now) in record { body_value = s.0; in_bounds = s.1 }
+returns-in-18 c = said _ _ c.in-18.is c.store.ensures c.requires (store-says (labels c.args.wide) c.args.body.now)
 
 pub returns-in-19 : goal.returns-in-19
-returns-in-19 c = let s = said _ _ c.in-19.is c.make.ensures c.requires (make-says (labels c.args.wide) c.args.body.now) in record { body_value = s.0; in_bounds = s.1 }
+returns-in-19 c = said _ _ c.in-19.is c.make.ensures c.requires (make-says (labels c.args.wide) c.args.body.now)
 
 pub returns-in-20 : goal.returns-in-20
-returns-in-20 c = let s = said _ _ c.in-20.is c.make_function.ensures c.requires (make-function-says (labels c.args.wide) c.args.body.now) in record { body_value = s.0; in_bounds = s.1 }
+returns-in-20 c = said _ _ c.in-20.is c.make_function.ensures c.requires (make-function-says (labels c.args.wide) c.args.body.now)
 
 pub returns-in-21 : goal.returns-in-21
-returns-in-21 c = let s = said _ _ c.in-21.is c.call.ensures c.requires (call-says (labels c.args.wide) c.args.body.now) in record { body_value = s.0; in_bounds = s.1 }
+returns-in-21 c = said _ _ c.in-21.is c.call.ensures c.requires (call-says (labels c.args.wide) c.args.body.now)
 
 pub returns-in-22 : goal.returns-in-22
-returns-in-22 c = let s = said _ _ c.in-22.is c.new.ensures c.requires (new-says (labels c.args.wide) c.args.body.now) in record { body_value = s.0; in_bounds = s.1 }
+returns-in-22 c = said _ _ c.in-22.is c.new.ensures c.requires (new-says (labels c.args.wide) c.args.body.now)
 
 pub returns-in-23 : goal.returns-in-23
-returns-in-23 c = let s = said _ _ {r = Return} {s = Return} c.in-23.is refl c.requires (return-says (labels c.args.wide) c.args.body.now) in record { body_value = s.0; in_bounds = s.1 }
+returns-in-23 c = said _ _ {r = Return} c.in-23.is refl c.requires (return-says (labels c.args.wide) c.args.body.now)
 
 pub returns-in-24 : goal.returns-in-24
-returns-in-24 c = let s = said _ _ c.in-24.is c.throw.ensures c.requires (throw-says (labels c.args.wide) c.args.body.now) in record { body_value = s.0; in_bounds = s.1 }
+returns-in-24 c = said _ _ c.in-24.is c.throw.ensures c.requires (throw-says (labels c.args.wide) c.args.body.now)
 
 pub returns-in-25 : goal.returns-in-25
-returns-in-25 c = let s = said _ _ c.in-25.is c.catch.ensures c.requires (catch-says (labels c.args.wide) c.args.body.now) in record { body_value = s.0; in_bounds = s.1 }
+returns-in-25 c = said _ _ c.in-25.is c.catch.ensures c.requires (catch-says (labels c.args.wide) c.args.body.now)
 
 pub returns-in-26 : goal.returns-in-26
-returns-in-26 c = let s = said _ _ c.in-26.is c.convert.ensures c.requires (convert-says (labels c.args.wide) c.args.body.now) in record { body_value = s.0; in_bounds = s.1 }
+returns-in-26 c = said _ _ c.in-26.is c.convert.ensures c.requires (convert-says (labels c.args.wide) c.args.body.now)
 
 pub returns-in_default : goal.returns-in_default
 unfolding statements_of

@@ -15,31 +15,31 @@ abbrev label : Label
 label = the_site.scope
 
 pub returns-in-0 : goal.returns-in-0
-returns-in-0 c = let s = said_at {key = c.args.key} {prototyped = c.args.prototyped} 0 c.made.result c.in-0.is (record { rule = λ p. c.made.ensures.result_value p c.args.key; bounded = c.made.ensures.in_bounds }) in record { result_value = s.0; in_bounds = s.1 }
+returns-in-0 c = said_at 0 c.made.result c.in-0.is (record { rule = λ p. c.made.ensures.result_value p c.args.key; bounded = c.made.ensures.in_bounds })
 
 pub returns-in-1 : goal.returns-in-1
 returns-in-1 c =
     let a = c.args in
-    let s = said_at {key = c.args.key} {prototyped = c.args.prototyped} 1 (Load bag bag a.key label) c.in-1.is (record { rule = λ p. refl; bounded = λ wide. (c.requires.0, three_labels wide) }) in record { result_value = s.0; in_bounds = s.1 }
+    said_at 1 (Load bag bag a.key label) c.in-1.is (record { rule = λ p. refl; bounded = λ wide. (c.requires.0, three_labels wide) })
 
 pub returns-in-2 : goal.returns-in-2
 returns-in-2 c =
     let a = c.args in
-    let s = said_at {key = c.args.key} {prototyped = c.args.prototyped} 2 (Store bag a.key bag) c.in-2.is (record { rule = λ p. refl; bounded = λ wide. c.requires.0 }) in record { result_value = s.0; in_bounds = s.1 }
+    said_at 2 (Store bag a.key bag) c.in-2.is (record { rule = λ p. refl; bounded = λ wide. c.requires.0 })
 
 pub returns-in-3 : goal.returns-in-3
-returns-in-3 c = rw c.guest_site.ensures (let s = said_at {key = c.args.key} {prototyped = c.args.prototyped} 3 (Call the_site) c.in-3.is (record { rule = λ p. refl; bounded = λ wide. three_labels wide }) in record { result_value = s.0; in_bounds = s.1 })
+returns-in-3 c = rw c.guest_site.ensures (said_at 3 (Call the_site) c.in-3.is (record { rule = λ p. refl; bounded = λ wide. three_labels wide }))
 
 pub returns-in-4 : goal.returns-in-4
-returns-in-4 c = rw c.guest_site-in-4.ensures (let s = said_at {key = c.args.key} {prototyped = c.args.prototyped} 4 (New the_site label) c.in-4.is (record { rule = λ p. refl; bounded = λ wide. (three_labels wide, three_labels wide) }) in record { result_value = s.0; in_bounds = s.1 })
+returns-in-4 c = rw c.guest_site-in-4.ensures (said_at 4 (New the_site label) c.in-4.is (record { rule = λ p. refl; bounded = λ wide. (three_labels wide, three_labels wide) }))
 
 pub returns-in-5 : goal.returns-in-5
-returns-in-5 c = let s = said_at {key = c.args.key} {prototyped = c.args.prototyped} 5 (Return) c.in-5.is (record { rule = λ p. refl; bounded = λ wide. tt }) in record { result_value = s.0; in_bounds = s.1 }
+returns-in-5 c = said_at 5 Return c.in-5.is (record { rule = λ p. refl; bounded = λ wide. tt })
 
 pub returns-in-6 : goal.returns-in-6
-returns-in-6 c = let s = said_at {key = c.args.key} {prototyped = c.args.prototyped} 6 (Throw label bag) c.in-6.is (record { rule = λ p. refl; bounded = λ wide. three_labels wide }) in record { result_value = s.0; in_bounds = s.1 }
+returns-in-6 c = said_at 6 (Throw label bag) c.in-6.is (record { rule = λ p. refl; bounded = λ wide. three_labels wide })
 
 pub returns-in_default : goal.returns-in_default
 returns-in_default c =
     let e = last_one c.args.i c.requires.1 (search rules) (search rules) (search rules) (search rules) (search rules) (search rules) (search rules) in
-    let s = said_at {key = c.args.key} {prototyped = c.args.prototyped} 7 (Catch label bag) e (record { rule = λ p. refl; bounded = λ wide. three_labels wide }) in record { result_value = s.0; in_bounds = s.1 }
+    said_at 7 (Catch label bag) e (record { rule = λ p. refl; bounded = λ wide. three_labels wide })
