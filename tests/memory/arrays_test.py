@@ -12,7 +12,7 @@ import arrays
 
 TREE = Path(__file__).parents[2].resolve()
 OPERATIONS = "crates/operations/src/lib.rt"
-JUDGE = "    let full = rows::word_count(wide);\n"  # the first line of `judge`
+JUDGE = "    solver::solve(table, file, wide, sheet);\n"  # a line of `judge` alone
 
 # What is put into `judge`, what is declared beside it, and what the check must say of it. No two have the same length.
 LONG = [
@@ -53,7 +53,7 @@ CHANGED = [
      ["pezvoran_c: the verdict for C needs close"]),
     ("pezvoran_c", [("crates/sheet/src/lib.rt", "const VARIABLES: usize = 256;", "const VARIABLES: usize = 255 + 1;")], ["by which the sheet is made longer"]),
     ("verdict", [("crates/verdict/src/main.rt", "TABLE_WORDS]", "TABLE_WORDS + 1]"), ("crates/desk/src/lib.rt", "[0u8; layout::LONGEST + 1]", "[0u8; layout::LONGEST + 2]")],
-     [": verdict::main has a value of 19,464 bytes", "desk::run has a value of 32,770 bytes"]),
+     [": verdict::main has a value of 19,464 bytes", "desk::judge_input has a value of 32,770 bytes"]),
     ("verdict", [("crates/verdict/src/main.rt", "    let mut table", "    let mut second = [0u64; TABLE_WORDS];\n    let mut table")], ["verdict::main has a value of 19,456 bytes"]),
     ("verdict", [("crates.txt", "\nverdict:", "\nverdicted:")], ["crates.txt has no verdict"]),
 ]

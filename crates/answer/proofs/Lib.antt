@@ -1,3 +1,4 @@
--- The word of an outcome. Assumes nothing.
+-- The word of an outcome, and the numbers of refusals. Assumes nothing.
 pub mod Word
 pub mod Examples
+pub mod Numbers

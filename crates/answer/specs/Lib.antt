@@ -1,3 +1,4 @@
--- The outcomes of the operations, and the word that carries one.
+-- The outcomes of the operations, the word that carries one, and the line that a program prints of it.
 pub mod Outcome
 pub mod Answer
+pub mod Line

@@ -7,9 +7,10 @@ ghost use Rattle.rows.specs.Edition.{labels};
 ghost use Rattle.program.specs.Program.{Program};
 ghost use Rattle.uses.specs.Use.{Lent, tells, Reached};
 ghost use Rattle.records.specs.Say.{rule_by, InBounds};
-ghost use Rattle.host.specs.Lays.{Lays, FormalsOf, ReturnsOf, arrays};
+ghost use Rattle.host.specs.Lays.{Lays, Serves};
 ghost use Rattle.shared.specs.Apply.{Applies};
 
+use host::Host;
 use joins::{catch, copy, give_label, grant, make_function, name_variable, set_property, throw};
 use lookups::call::{call, convert, make_new};
 use lookups::property::{load, load_part, store};
@@ -21,17 +22,12 @@ pub fn apply(
     t: &mut [u64],
     o: usize,
     wide: bool,
-    host: &[u64; host::WORDS],
-    formals: &[u8; 1792],
-    first: &[u64; 256],
-    second: &[u64; 256],
-    third: &[u64; 256],
-    fourth: &[u64; 256],
+    host: &Host,
     keeps: &mut [u64; 256],
     s: Statement,
 ) -> bool
     requires { Lent wide o (length t.old) × InBounds (labels wide) s }
-    ensures { (p : Program) → Lays wide p host.now → FormalsOf p formals.now → ReturnsOf p (arrays first.now second.now third.now fourth.now) → Applies wide o p (tells wide (rule_by p s)) t.old keeps.old t.new keeps.new result }
+    ensures { (p : Program) → Serves wide p host.now → Applies wide o p (tells wide (rule_by p s)) t.old keeps.old t.new keeps.new result }
 {
     match s {
         Statement::Nothing => false,
@@ -44,27 +40,17 @@ pub fn apply(
         Statement::Store(x, key, a) => store(t, o, wide, host, keeps, x, key, a),
         Statement::Make(y, l) => give_label(t, o, wide, y, l),
         Statement::MakeFunction(y, l, q) => make_function(t, o, wide, y, l, q),
-        Statement::Call(site) => call(
-            t, o, wide, host, formals, first, second, third, fourth, keeps, site,
-        ),
-        Statement::New(site, l) => make_new(
-            t, o, wide, host, formals, first, second, third, fourth, keeps, site, l,
-        ),
+        Statement::Call(site) => call(t, o, wide, host, keeps, site),
+        Statement::New(site, l) => make_new(t, o, wide, host, keeps, site, l),
         Statement::Return => false,
         Statement::Throw(k, x) => throw(t, o, wide, k, x),
         Statement::Catch(k, y) => catch(t, o, wide, k, y),
-        Statement::Convert(k, x) => convert(t, o, wide, host, formals, keeps, k, x),
+        Statement::Convert(k, x) => convert(t, o, wide, host, keeps, k, x),
     }
 }
 
 // A part of a use, in place: of a load for these labels of its object, of another statement nothing.
-pub fn apply_part(
-    t: &mut [u64],
-    wide: bool,
-    host: &[u64; host::WORDS],
-    s: Statement,
-    part: Set,
-) -> bool
+pub fn apply_part(t: &mut [u64], wide: bool, host: &Host, s: Statement, part: Set) -> bool
     requires { Lent wide 0 (length t.old) × InBounds (labels wide) s }
     ensures reached { (p : Program) → Lays wide p host.now → Reached wide 0 (tells wide (rule_by p s)) t.old t.new }
     ensures t_len_unchanged { length t.new ≡ length t.old }

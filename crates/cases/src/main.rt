@@ -4,96 +4,86 @@
 // report_cases` in tests/second). Of a file that cannot be read nothing is printed, and a line on standard error says why.
 #![tactic(auto)]
 
-use input::Got;
+ghost use Rattle.std.specs.Prelude.{◌≡◌, ◌*◌};
+ghost use Rattle.rows.specs.Edition.{word_count};
+
+use input::Trouble;
+use operations::{LARGE_ROOM_WORDS, ROOM_WORDS};
 use rows::{LARGE_TABLE_WORDS, TABLE_WORDS};
-use std::{fs, io};
+use std::io;
 
-fn judge(rt: &impl Print, file: &[u8]) -> io::Result<()> {
-    let mut table = [0u64; TABLE_WORDS];
-    desk::print_verdict(rt, file, false, &mut table)?;
-    report::print(
-        rt,
-        pezvoran::examine(file, &table),
-        false,
-        sets::none(false),
-    )
-}
+const FILES: [&str; 32] = [
+    "listed-1",
+    "listed-2",
+    "listed-3",
+    "listed-4",
+    "listed-5",
+    "listed-6",
+    "listed-7",
+    "listed-8",
+    "every-1",
+    "every-2",
+    "every-3",
+    "every-4",
+    "large-1",
+    "large-2",
+    "key-4",
+    "key-129",
+    "key-135",
+    "key-136",
+    "key-137",
+    "key-143",
+    "key-144",
+    "outside-1",
+    "outside-2",
+    "profile-1",
+    "profile-2",
+    "profile-3",
+    "profile-4",
+    "profile-5",
+    "profile-6",
+    "profile-7",
+    "profile-8",
+    "profile-9",
+];
 
-fn judge_large(rt: &impl Print, file: &[u8]) -> io::Result<()> {
-    let mut table = [0u64; LARGE_TABLE_WORDS];
-    desk::print_verdict(rt, file, true, &mut table)?;
-    report::print(
-        rt,
-        pezvoran_large::examine(file, &table),
-        true,
-        sets::none(true),
-    )
+// What one edition says of a file.
+fn judge<const TABLE: usize, const ROOM: usize>(
+    rt: &impl Print,
+    file: &[u8],
+    wide: bool,
+) -> io::Result<()>
+    requires table { TABLE ≡ word_count wide }
+    requires room { ROOM ≡ 2 * word_count wide }
+{
+    let mut table = [0u64; TABLE];
+    desk::print_verdict(rt, file, wide, &mut table)?;
+    let answer = operations::examine::<ROOM>(file, wide, &table);
+    report::print(rt, answer, wide, sets::none(wide))
 }
 
 fn judge_both(rt: &impl Print, file: &[u8]) -> io::Result<()> {
-    judge(rt, file)?;
-    judge_large(rt, file)
+    judge::<TABLE_WORDS, ROOM_WORDS>(rt, file, false)?;
+    judge::<LARGE_TABLE_WORDS, LARGE_ROOM_WORDS>(rt, file, true)
 }
 
-fn show(rt: &HostRuntime, name: &str) {
-    let trouble = rt.stderr();
-    let opened = fs::open(rt, name);
-    let mut from = match opened {
-        Ok(from) => from,
-        Err(error) => {
-            input::fail(&trouble, name.as_bytes(), error);
-            return;
-        }
-    };
+fn show<'a>(rt: &HostRuntime, name: &'a str) -> Result<(), Trouble<'a>> {
     let mut file = [0u8; layout::LONGEST + 1];
-    let got = input::read_all(rt, &mut from, &mut file);
-    match got {
-        Got::Read(n) => {
-            if let Err(error) = judge_both(rt, &file[..n]) {
-                input::fail(&trouble, b"cases: standard output", error);
-            }
-        }
-        Got::Failed(error) => input::fail(&trouble, name.as_bytes(), error),
-    }
+    let n = input::read_file(rt, name, &mut file).map_err(|error| Trouble { what: name, error })?;
+    judge_both(rt, &file[..n]).map_err(|error| Trouble {
+        what: "cases: standard output",
+        error,
+    })
 }
 
 fn main(rt: HostRuntime) {
     if input::has_words(&rt) {
-        let _ = rt
-            .stderr()
-            .write_all(b"usage: cases (in the folder that has its files)\n");
+        let _ = eprintln!(rt; "usage: cases (in the folder that has its files)");
         return;
     }
-    show(&rt, "listed-1");
-    show(&rt, "listed-2");
-    show(&rt, "listed-3");
-    show(&rt, "listed-4");
-    show(&rt, "listed-5");
-    show(&rt, "listed-6");
-    show(&rt, "listed-7");
-    show(&rt, "listed-8");
-    show(&rt, "every-1");
-    show(&rt, "every-2");
-    show(&rt, "every-3");
-    show(&rt, "every-4");
-    show(&rt, "large-1");
-    show(&rt, "large-2");
-    show(&rt, "key-4");
-    show(&rt, "key-129");
-    show(&rt, "key-135");
-    show(&rt, "key-136");
-    show(&rt, "key-137");
-    show(&rt, "key-143");
-    show(&rt, "key-144");
-    show(&rt, "outside-1");
-    show(&rt, "outside-2");
-    show(&rt, "profile-1");
-    show(&rt, "profile-2");
-    show(&rt, "profile-3");
-    show(&rt, "profile-4");
-    show(&rt, "profile-5");
-    show(&rt, "profile-6");
-    show(&rt, "profile-7");
-    show(&rt, "profile-8");
-    show(&rt, "profile-9");
+    for name in FILES {
+        if let Err(trouble) = show(&rt, name) {
+            let _ = eprintln!(rt; "{trouble}");
+        }
+    }
 }

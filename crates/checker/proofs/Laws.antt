@@ -1,11 +1,14 @@
 -- The check's one use of all rules: the room that it needs, and what it shows. Assumes nothing.
 use mathlib.Core.Path.{◌≡◌, subst}
+use Rattle.std.specs.Prelude.{Option, None, Some, IfSome}
+use Rattle.std.specs.Option.{unwrap_or}
 use mathlib.Core.Logic.{inr}
 use mathlib.Core.Bool.{Bool}
 use mathlib.Core.List.{List}
-use Prim.Native.Nat.{ℕ, ◌*◌, ◌≤◌}
+use Prim.Native.Nat.{ℕ, ◌*◌, ◌≤◌, ◌<◌}
 use native.Mathlib.Omega.{arith}
 use Rattle.rows.specs.Edition.{labels, word_count}
+use Rattle.rows.specs.Row.{row_count}
 use Rattle.rules.specs.Gap.{gap}
 use Rattle.format.specs.Reading.{read_file, Readable}
 use Rattle.program.specs.Program.{program_in}
@@ -15,7 +18,8 @@ use Rattle.records.proofs.Walks.{five-labels}
 use Rattle.verdicts.specs.Check.{cleaned}
 use Rattle.lent.specs.Table.{table_at}
 use Rattle.uses.specs.Use.{Lent, tells, Used}
-use Rattle.passes.specs.Arrays.{Arrays}
+use Rattle.sheet.specs.declared.Sheet.{Sheet}
+use Rattle.laying.specs.Arrays.{Arrays}
 use Rattle.cleaning.specs.Copies.{Declares, Cleans, Grown}
 use Rattle.cleaning.proofs.Gap.{cleaned-gap}
 
@@ -29,13 +33,17 @@ room-two k n m h s = omega (arith, h, s)
 
 -- ---- what the use shows
 
-pub gap-shown : (given : List ℕ) {wide : Bool} {file types flags masks formals : List ℕ} {profile : ℕ} → Readable (labels wide) file
-    → Arrays wide file types flags masks formals profile
-    → {t u : List ℕ} {w o r : ℕ} {grew : Bool} → Declares wide types w → Cleans wide w given t → o ≡ word_count wide
-    → Used wide o (tells wide (rules (labels wide) (program_in (labels wide) file))) t t u grew → Grown wide u r
-    → r ≡ gap (labels wide) (cleaned (labels wide) (read_file (labels wide) file).sheet (table_at wide 0 given)) (rules (labels wide) (program_in (labels wide) file))
-gap-shown given {wide} {file} ok are {t} {u} {o = o} {grew = grew} declares cleans e used grown =
+pub gap-shown : (given : List ℕ) {wide : Bool} {file : List ℕ} {sheet : Sheet} → Readable (labels wide) file → Arrays wide file sheet → {t u : List ℕ}
+    {w o : ℕ} {grew : Bool} → Declares wide sheet.types w → Cleans wide w given t → o ≡ word_count wide
+    → Used wide o (tells wide (rules (labels wide) (program_in (labels wide) file))) t t u grew → (r : Option ℕ) → Grown wide u r
+    → unwrap_or r (row_count (labels wide))
+    ≡ gap (labels wide) (cleaned (labels wide) (read_file (labels wide) file).sheet (table_at wide 0 given)) (rules (labels wide) (program_in (labels wide) file))
+gap-shown given {wide} {file} ok are {t} {u} {grew = grew} declares cleans e used r grown =
     let s = (read_file (labels wide) file).sheet in
     let p = rules (labels wide) (program_in (labels wide) file) in
-    cleaned-gap p (rules-fit (labels wide) file (five-labels wide) ok) s (table_at wide 0 given) (cleans s (declares s are.types_are))
+    cleaned-gap p (rules-fit (labels wide) file (five-labels wide) ok) s (table_at wide 0 given) r (cleans s (declares s are.types_are))
     (subst (λ (x : ℕ). Used wide x (tells wide p) t t u grew) e used) grown
+
+pub gap-within : (wide : Bool) (u : List ℕ) (r : Option ℕ) → Grown wide u r → IfSome r (λ row. row < row_count (labels wide))
+gap-within wide u None g = tt
+gap-within wide u (Some r) g = g.bound

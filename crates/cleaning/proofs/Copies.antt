@@ -5,6 +5,7 @@ use mathlib.Core.Bool.{Bool, true, false, cond, not}
 use mathlib.Core.List.{List, [], ◌∷◌}
 use Prim.Native.Nat.{ℕ, zero, suc, ◌+◌, ◌*◌, ◌^◌, ◌≤◌, ◌<◌}
 use native.Mathlib.Decide.{ℕ_discrete}
+use borrow.Author.Tests.{eq-eqb, ne_eqb}
 use native.Mathlib.Numerals.{add-one}
 use native.Mathlib.Omega.{arith}
 use lib.Bits.{bit_and}
@@ -37,12 +38,20 @@ pub declares-none : {w : ℕ} (wide : Bool) (types : List ℕ) → w ≡ 0 → D
 unfolding declared_word
 declares-none wide types e s is = e
 
-pub declares-next : {v : ℕ} (wide : Bool) (types : List ℕ) (l w : ℕ) → l < labels wide
+declares-next : {v : ℕ} (wide : Bool) (types : List ℕ) (l w : ℕ) → l < labels wide
     → v ≡ cond (not (eqb (get_or types l 0) 0)) (union w (2 ^ l)) w → DeclaresBelow wide types l w → DeclaresBelow wide types (l + 1) v
 unfolding declared_word
 declares-next {v} wide types l w h e below s is =
     let kind : get_or s.types l 0 ≡ get_or types l 0 = ap (λ (x : List ℕ). get_or x l 0) is ∙ get_or-take (labels wide) types l 0 h in
     rw (add-one, kind) (e ∙ ap (λ (x : ℕ). cond (not (eqb (get_or types l 0) 0)) (union x (2 ^ l)) x) (below s is))
+
+pub declares-here : {v x : ℕ} (wide : Bool) (types : List ℕ) (l w : ℕ) → l < labels wide → (get_or types l 0 ≡ 0 → ⊥) → x ≡ 2 ^ l → v ≡ union w x
+    → DeclaresBelow wide types l w → DeclaresBelow wide types (l + 1) v
+declares-here wide types l w h some e u = declares-next wide types l w h (rw (ne_eqb (get_or types l 0) 0 some, ← e) u)
+
+pub declares-over : (wide : Bool) (types : List ℕ) (l w : ℕ) → l < labels wide → get_or types l 0 ≡ 0 → DeclaresBelow wide types l w
+    → DeclaresBelow wide types (l + 1) w
+declares-over wide types l w h none = declares-next wide types l w h (rw (eq-eqb (get_or types l 0) 0 none))
 
 -- ---- both tables at once
 

@@ -19,14 +19,7 @@ use Rattle.rules.specs.Table.{Has}
 use Rattle.lent.specs.Table.{table_at, place}
 use Rattle.uses.proofs.Rows.{row_is}
 use Rattle.whole.proofs.Tables.{table-small}
-use Rattle.cleaning.specs.Copies.{Grown}
-
--- no row below r grew
-abbrev pub SameBelow : Bool → List ℕ → ℕ → Type 0
-SameBelow wide t r = (q l : ℕ) → q < r → Has (table_at wide (word_count wide) t) q l → Has (table_at wide 0 t) q l
-
-pub same_none : (wide : Bool) (t : List ℕ) → SameBelow wide t 0
-same_none wide t q l h = absurd (omega arith)
+use Rattle.cleaning.specs.Copies.{SameBelow, GrownAt}
 
 -- what `is_within` says of two rows
 no_more : (new old l : ℕ) → difference new old ≡ 0 → bit new l ≡ 1 → bit old l ≡ 1
@@ -60,12 +53,9 @@ module _ {x y : ℕ} {b : Bool} (wide : Bool) (t : List ℕ) (o r : ℕ) (e : o 
           rw (p, ← first) (no_more y x l none held)
       go (no d) = below q l (omega (arith, d)) g
 
-  pub grown-here : Words t → b ≡ false → SameBelow wide t r → Grown wide t r
+  pub grown-here : Words t → b ≡ false → SameBelow wide t r → GrownAt wide t r
   grown-here small s below =
       let hx : x < 2 ^ labels wide = rw first (table-small wide 0 t small r) in
       let hy : y < 2 ^ labels wide = rw second (table-small wide (word_count wide) t small r) in
       let m = more (labels wide) y x hy hx (eqb-false (difference y x) 0 (sym test ∙ s)) in
-      record { bound = omega arith; below = below; here = λ _. (m.0, rw (← second) m.1, λ g. m.2 (rw (← first) at g)) }
-
-pub grown-nowhere : (wide : Bool) (t : List ℕ) (r : ℕ) → r ≡ row_count (labels wide) → SameBelow wide t r → Grown wide t r
-grown-nowhere wide t r e below = record { bound = omega (arith, e); below = below; here = λ h. absurd (omega (arith, e, h)) }
+      record { bound = h; below = below; here = (m.0, rw (← second) m.1, λ g. m.2 (rw (← first) at g)) }

@@ -1,5 +1,5 @@
 -- The check's two tables, one behind the other: at first both are the given table, cleaned; then one use of all rules adds to the second. Assumes nothing.
-use Rattle.std.specs.Prelude.{◌≡◌, Bool, List, ℕ, ◌≤◌, ◌<◌, length, take, set}
+use Rattle.std.specs.Prelude.{◌≡◌, Bool, List, Option, None, Some, ℕ, ◌<◌, length, take, set}
 use Rattle.rows.specs.Edition.{labels, word_count}
 use Rattle.rows.specs.Row.{row_count}
 use Rattle.rules.specs.Table.{Table, Has}
@@ -26,8 +26,17 @@ pub record BothStored (wide : Bool) (r v : ℕ) (t u : List ℕ) : Type 0 where
 abbrev pub Cleans : Bool → ℕ → List ℕ → List ℕ → Type 0
 Cleans wide w given u = (s : Sheet) → w ≡ declared_word (labels wide) s → Both wide (cleaned (labels wide) s (table_at wide 0 given)) u
 
--- row r is the lowest in which the second table holds a label that the first lacks; the number of rows where there is none
-pub record Grown (wide : Bool) (t : List ℕ) (r : ℕ) : Type 0 where
-  pub bound : r ≤ row_count (labels wide)
-  pub below : (q l : ℕ) → q < r → Has (table_at wide (word_count wide) t) q l → Has (table_at wide 0 t) q l
-  pub here : r < row_count (labels wide) → (l : ℕ) × Has (table_at wide (word_count wide) t) r l × (Has (table_at wide 0 t) r l → ⊥)
+-- in no row below r does the second table hold a label that the first lacks
+abbrev pub SameBelow : Bool → List ℕ → ℕ → Type 0
+SameBelow wide t r = (q l : ℕ) → q < r → Has (table_at wide (word_count wide) t) q l → Has (table_at wide 0 t) q l
+
+-- row r is the lowest in which it does
+pub record GrownAt (wide : Bool) (t : List ℕ) (r : ℕ) : Type 0 where
+  pub bound : r < row_count (labels wide)
+  pub below : SameBelow wide t r
+  pub here : (l : ℕ) × Has (table_at wide (word_count wide) t) r l × (Has (table_at wide 0 t) r l → ⊥)
+
+-- the lowest row in which it does, if there is one
+abbrev pub Grown : Bool → List ℕ → Option ℕ → Type 0
+Grown wide t None = SameBelow wide t (row_count (labels wide))
+Grown wide t (Some r) = GrownAt wide t r

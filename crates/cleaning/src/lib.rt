@@ -12,28 +12,16 @@ ghost use Rattle.cleaning.specs.Copies.{Declares, BothStored, Cleans, Grown};
 use rows::Label;
 use sets::Set;
 
-// The labels of w, with l where its type says that it is declared.
-fn with_label(wide: bool, w: Set, kind: u8, l: usize) -> Set
-    requires { l < labels wide }
-    ensures { value wide result ≡ cond (not (eqb kind 0)) (union (value wide w) (2 ^ l)) (value wide w) }
-{
-    if kind == 0 {
-        return w;
-    }
-    let one = sets::single(wide, Label(l as u8));
-    sets::union(wide, w, one)
-}
-
 // The declared labels.
 pub fn declared(types: &[u8; 256], wide: bool) -> Set
     ensures { Declares wide types.now (value wide result) }
 {
-    let n = rows::labels(wide);
     let mut all = sets::none(wide);
-    let mut l: usize = 0;
-    while l < n {
-        all = with_label(wide, all, types[l], l);
-        l += 1;
+    for l in 0..rows::labels(wide) {
+        if types[l] != 0 {
+            let one = sets::single(wide, Label(l as u8));
+            all = sets::union(wide, all, one);
+        }
     }
     all
 }
@@ -53,33 +41,25 @@ pub fn clean(table: &[u64], declared: Set, wide: bool, t: &mut [u64])
     requires { (word_count wide ≤ length table.now) × (2 * word_count wide ≤ length t.old) }
     ensures { Cleans wide (value wide declared) table.now t.new }
 {
-    let n = rows::row_count(wide);
-    let none = sets::none(wide);
-    write_both(t, wide, 0, none);
-    let mut r: usize = 1;
-    while r < n {
+    write_both(t, wide, 0, sets::none(wide));
+    for r in 1..rows::row_count(wide) {
         let row = lent::row(table, 0, wide, r);
-        let some = sets::meet(wide, row, declared);
-        write_both(t, wide, r, some);
-        r += 1;
+        write_both(t, wide, r, sets::meet(wide, row, declared));
     }
 }
 
-// The lowest row in which the second table holds a label that the first lacks; the number of rows where there is none.
-pub fn lowest_grown(t: &[u64], wide: bool) -> usize
+// The lowest row in which the second table holds a label that the first lacks.
+pub fn lowest_grown(t: &[u64], wide: bool) -> Option<usize>
     requires { 2 * word_count wide ≤ length t.now }
     ensures { Grown wide t.now result }
 {
-    let n = rows::row_count(wide);
     let o = rows::word_count(wide);
-    let mut low: usize = 0;
-    while low < n {
-        let old = lent::row(t, 0, wide, low);
-        let new = lent::row(t, o, wide, low);
+    for r in 0..rows::row_count(wide) {
+        let old = lent::row(t, 0, wide, r);
+        let new = lent::row(t, o, wide, r);
         if !sets::is_within(wide, new, old) {
-            return low;
+            return Some(r);
         }
-        low += 1;
     }
-    low
+    None
 }

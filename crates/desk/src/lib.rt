@@ -6,7 +6,7 @@
 ghost use Rattle.std.specs.Prelude.{◌≤◌, length};
 ghost use Rattle.rows.specs.Edition.{word_count};
 
-use input::Got;
+use input::Trouble;
 use std::io;
 
 // The verdict on a file, printed.
@@ -14,34 +14,36 @@ pub fn print_verdict(rt: &impl Print, file: &[u8], wide: bool, table: &mut [u64]
     requires { word_count wide ≤ length table.old }
 {
     let answer = operations::judge(file, wide, table);
-    let bag = lent::row(table, 0, wide, 1);
-    report::print(rt, answer, wide, bag)
+    report::print(rt, answer, wide, lent::row(table, 0, wide, 1))
 }
 
-// A program of the edition: what it says of its use, of input that cannot be read, of output that cannot be written.
-pub fn run(
-    rt: &HostRuntime,
-    wide: bool,
-    table: &mut [u64],
-    usage: &[u8],
-    unread: &[u8],
-    unwritten: &[u8],
-)
+// Reads a file on standard input and prints the verdict on it.
+fn judge_input(rt: &HostRuntime, wide: bool, table: &mut [u64]) -> Result<(), Trouble<'static>>
     requires { word_count wide ≤ length table.old }
 {
-    let trouble = rt.stderr();
+    let mut file = [0u8; layout::LONGEST + 1];
+    let n = input::read_all(rt, &mut rt.stdin(), &mut file).map_err(|error| Trouble {
+        what: "standard input",
+        error,
+    })?;
+    print_verdict(rt, &file[..n], wide, table).map_err(|error| Trouble {
+        what: "standard output",
+        error,
+    })
+}
+
+// The program of that name, of the edition. There is nowhere to say that a line on standard error could not be written.
+pub fn run(rt: &HostRuntime, program: &str, wide: bool, table: &mut [u64])
+    requires { word_count wide ≤ length table.old }
+{
     if input::has_words(rt) {
-        let _ = trouble.write_all(usage);
+        let labels = if wide { " of up to 256 labels" } else { "" };
+        let _ = eprintln!(rt;
+            "usage: {program} < FILE (a statement file{labels}; the verdict is printed on standard output)"
+        );
         return;
     }
-    let mut file = [0u8; layout::LONGEST + 1];
-    let got = input::read_all(rt, &mut rt.stdin(), &mut file);
-    match got {
-        Got::Read(n) => {
-            if let Err(error) = print_verdict(rt, &file[..n], wide, table) {
-                input::fail(&trouble, unwritten, error);
-            }
-        }
-        Got::Failed(error) => input::fail(&trouble, unread, error),
+    if let Err(trouble) = judge_input(rt, wide, table) {
+        let _ = eprintln!(rt; "{program}: {trouble}");
     }
 }

@@ -4,37 +4,31 @@
 // nothing is printed, and a line on standard error says why.
 #![tactic(auto)]
 
-use input::Got;
-use std::fs;
+use answer::Answer;
+use input::Trouble;
+use std::io::Error;
 
 // One byte more than the cases may have.
 const MOST: usize = 262144;
 
 // What reading a file gives. A line that cannot be written is passed over.
 fn show(rt: &impl Print, file: &[u8], wide: bool) {
-    let r = reader::read(file, wide);
-    let no = r.refusal;
-    let position = r.position;
-    let _ = if no == 0 {
-        println!(rt; "read")
-    } else {
-        println!(rt; "refused {no} {position}")
+    let _ = match reader::read(file, wide) {
+        Ok(_) => println!(rt; "read"),
+        Err(no) => rt.println(Answer::Refused(no.refusal, no.position)),
     };
 }
 
 // Each case: two bytes of length, the low one first, then the file.
 fn show_all(rt: &impl Print, cases: &[u8], wide: bool) {
-    let mut at: usize = 0;
-    while at < cases.len() {
-        if cases.len() - at < 2 {
+    let mut rest = cases;
+    while let Some((length, after)) = rest.split_first_chunk::<2>() {
+        let n = usize::from(u16::from_le_bytes(*length));
+        let Some((file, next)) = after.split_at_checked(n) else {
             return;
-        }
-        let n = fields::index(cases[at]) + 256 * fields::index(cases[at + 1]);
-        if cases.len() - at - 2 < n {
-            return;
-        }
-        show(rt, &cases[at + 2..at + 2 + n], wide);
-        at = at + 2 + n;
+        };
+        show(rt, file, wide);
+        rest = next;
     }
 }
 
@@ -51,33 +45,24 @@ fn show_edition(rt: &impl Print, cases: &[u8], wide: bool) {
     show_sizes(rt, wide);
 }
 
+fn show_file<'a>(rt: &HostRuntime, name: &'a str) -> Result<(), Trouble<'a>> {
+    let mut cases = [0u8; MOST];
+    let trouble = |error| Trouble { what: name, error };
+    let n = input::read_file(rt, name, &mut cases).map_err(trouble)?;
+    if n == MOST {
+        return Err(trouble(Error::other("is too long")));
+    }
+    show_edition(rt, &cases[..n], false);
+    show_edition(rt, &cases[..n], true);
+    Ok(())
+}
+
 fn main(rt: HostRuntime) {
-    let trouble = rt.stderr();
     if input::has_words(&rt) {
-        let _ = trouble.write_all(b"usage: edges (in the folder that has its file)\n");
+        let _ = eprintln!(rt; "usage: edges (in the folder that has its file)");
         return;
     }
-    let name = "cases";
-    let opened = fs::open(&rt, name);
-    let mut from = match opened {
-        Ok(from) => from,
-        Err(error) => {
-            input::fail(&trouble, name.as_bytes(), error);
-            return;
-        }
-    };
-    let mut cases = [0u8; MOST];
-    let got = input::read_all(&rt, &mut from, &mut cases);
-    match got {
-        Got::Read(n) => {
-            if n == MOST {
-                let _ = trouble.write_all(b"cases: is too long\n");
-            } else {
-                let list = &cases[..n];
-                show_edition(&rt, list, false);
-                show_edition(&rt, list, true);
-            }
-        }
-        Got::Failed(error) => input::fail(&trouble, name.as_bytes(), error),
+    if let Err(trouble) = show_file(&rt, "cases") {
+        let _ = eprintln!(rt; "{trouble}");
     }
 }

@@ -1,106 +1,101 @@
-// The test of a field's byte: whether it is good in its class, judged by the label types and the variables' owners so far, and the number with which it
-// is refused (document 01, "What each operation says no to"). The classes are those of the crate layout. `wide` says which edition it is: how many
-// labels there are, and how many of the label types count.
+// The test of a field's byte: whether it is good in its class, judged by the label types and the variables' owners so far, and with what it is refused
+// (document 01, "What each operation says no to"). The classes are those of the crate layout. `wide` says which edition it is: how many labels there
+// are, and how many of the label types count.
 #![tactic(auto)]
 
-ghost use Rattle.std.specs.Prelude.{◌≡◌, ◌&&◌, ◌||◌, ◌<◌, ◌≤◌, get_or, length, take, leb, eqb};
+ghost use Rattle.std.specs.Prelude.{◌≡◌, ◌&&◌, ◌≤◌, get_or, length, take, leb, eqb};
 ghost use Rattle.rows.specs.Edition.{labels};
-ghost use Rattle.layout.specs.Layout.{class_of};
+ghost use Rattle.layout.specs.Kinds.{class_meant};
+ghost use Rattle.answer.specs.Answer.{number_of};
 ghost use Rattle.format.specs.Fields.{good, refusal_of};
-ghost use Rattle.fields.specs.Judging.{judging, field_refusal};
+ghost use Rattle.fields.specs.Judging.{judging, field_refusal, number_in};
 
-// A byte as an index.
-pub fn index(b: u8) -> usize
-    ensures { (result ≡ b) × (result < 256) }
-{
-    b as usize
-}
+use answer::Refusal;
+use layout::Class;
 
 // The type of label b, 0 where it is not declared.
 fn type_of(types: &[u8], b: u8) -> u8
     ensures { result ≡ get_or types.now b 0 }
 {
-    let l = index(b);
-    if l < types.len() { types[l] } else { 0 }
+    types.get(usize::from(b)).copied().unwrap_or(0)
 }
 
-// The owner of variable b
+// The owner of variable b, 1 where it is not declared.
 pub fn owner_of(owners: &[u8], b: u8) -> u8
     ensures { result ≡ get_or owners.now b 1 }
 {
-    let v = index(b);
-    if v < owners.len() { owners[v] } else { 1 }
-}
-
-// Both hold.
-pub fn both(x: bool, y: bool) -> bool
-    ensures { result ≡ (x && y) }
-{
-    if x { y } else { false }
-}
-
-// At least one holds.
-pub fn either(x: bool, y: bool) -> bool
-    ensures { result ≡ (x || y) }
-{
-    if x { true } else { y }
+    owners.get(usize::from(b)).copied().unwrap_or(1)
 }
 
 // The label is declared, from 5 up, and of type t.
-fn made(types: &[u8], b: u8, t: u8) -> bool
+fn is_made(types: &[u8], b: u8, t: u8) -> bool
     ensures { result ≡ (leb 5 b && eqb (get_or types.now b 0) t) }
 {
-    both(5 <= b, type_of(types, b) == t)
+    5 <= b && type_of(types, b) == t
 }
 
 // Byte b is good in a field of the class.
-pub fn is_good<'a>(wide: bool, types: &'a [u8], owners: &'a [u8], class: u8, b: u8) -> bool
-    ensures { result ≡ good (labels wide) (judging types.now owners.now) (class_of class) b }
+#[tactic(auto, unfolding(format::specs::Fields::good))]
+pub fn is_good(wide: bool, types: &[u8], owners: &[u8], class: Class, b: u8) -> bool
+    ensures { result ≡ good (labels wide) (judging types.now owners.now) (class_meant class) b }
 {
     match class {
-        0 => b < 32,
-        1 => b % 2 == 1,
-        2 => both(5 <= b, index(b) < rows::labels(wide)),
-        3 => both(1 <= b, b <= 3),
-        4 => b <= 1,
-        5 => type_of(types, b) != 0,
-        6 => both(b != 3, type_of(types, b) != 0),
-        7 => made(types, b, 2),
-        8 => made(types, b, 1),
-        9 => both(
-            5 <= b,
-            either(type_of(types, b) == 1, type_of(types, b) == 3),
-        ),
-        10 => either(b == 0, made(types, b, 2)),
-        11 => both(2 <= b, b <= 255),
-        12 => either(b == 0, owner_of(owners, b) != 1),
-        13 => owner_of(owners, b) != 1,
-        14 => owner_of(owners, b) == 0,
-        15 => either(b == 255, b < 32),
-        16 => b < layout::CLASS_COUNT,
-        _ => layout::is_key(b),
+        Class::Name => b < 32,
+        Class::Mask => b % 2 == 1,
+        Class::NewLabel => 5 <= b && usize::from(b) < rows::labels(wide),
+        Class::Type => matches!(b, 1..=3),
+        Class::Flag => b <= 1,
+        Class::AnyLabel => type_of(types, b) != 0,
+        Class::HostLabel => b != 3 && type_of(types, b) != 0,
+        Class::FunctionLabel => is_made(types, b, 2),
+        Class::PlainLabel => is_made(types, b, 1),
+        Class::DataLabel => 5 <= b && matches!(type_of(types, b), 1 | 3),
+        Class::Scope => b == 0 || is_made(types, b, 2),
+        Class::NewVariable => 2 <= b,
+        Class::Variable => b == 0 || owner_of(owners, b) != 1,
+        Class::DeclaredVariable => owner_of(owners, b) != 1,
+        Class::GlobalVariable => owner_of(owners, b) == 0,
+        Class::VariableName => b == 255 || b < 32,
+        Class::NameClass => b < layout::CLASS_COUNT,
+        Class::Key => layout::is_key(b),
     }
 }
 
-// The number with which a bad byte in a field of each class is refused.
-const REFUSALS: [u8; 18] = [5, 5, 4, 5, 5, 4, 4, 4, 4, 4, 4, 3, 3, 3, 3, 5, 5, 5];
-
-fn refusal_of(class: u8) -> u8
-    ensures { result ≡ refusal_of (class_of class) }
+// With what a bad byte in a field of the class is refused.
+#[tactic(auto, unfolding(format::specs::Fields::refusal_of))]
+fn refusal_of(class: Class) -> Refusal
+    ensures { number_of result ≡ refusal_of (class_meant class) }
 {
-    let c = index(class);
-    if c < 18 { REFUSALS[c] } else { 5 }
+    match class {
+        Class::NewVariable | Class::Variable | Class::DeclaredVariable | Class::GlobalVariable =>
+            Refusal::BadVariable,
+        Class::NewLabel
+        | Class::AnyLabel
+        | Class::HostLabel
+        | Class::FunctionLabel
+        | Class::PlainLabel
+        | Class::DataLabel
+        | Class::Scope => Refusal::BadLabel,
+        Class::Name
+        | Class::Mask
+        | Class::Type
+        | Class::Flag
+        | Class::VariableName
+        | Class::NameClass
+        | Class::Key => Refusal::BadValue,
+    }
 }
 
-// The number with which byte b is refused in a field of the class, 0 where it is good. Of the types those of the edition's labels count.
-pub fn field_refusal<'a>(wide: bool, types: &'a [u8], owners: &'a [u8], class: u8, b: u8) -> u8
+// Whether byte b may stand in a field of the class. Of the types those of the edition's labels count.
+#[tactic(auto, unfolding(crate::specs::Judging::field_refusal))]
+pub fn judge(wide: bool, types: &[u8], owners: &[u8], class: Class, b: u8) -> Result<(), Refusal>
     requires { labels wide ≤ length types.now }
-    ensures { result ≡ field_refusal (labels wide) (judging (take (labels wide) types.now) owners.now) (class_of class) b }
+    ensures { number_in result ≡ field_refusal (labels wide) (judging (take (labels wide) types.now) owners.now) (class_meant class) b }
 {
-    let n = rows::labels(wide);
-    let counted = &types[..n];
+    let counted = &types[..rows::labels(wide)];
     if is_good(wide, counted, owners, class, b) {
-        return 0;
+        Ok(())
+    } else {
+        Err(refusal_of(class))
     }
-    refusal_of(class)
 }

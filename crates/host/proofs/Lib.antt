@@ -1,3 +1,2 @@
--- Laws of the array `host`, and of the arrays of what functions hand back. Assumes nothing.
-pub mod Rows
+-- Laws of what functions hand back. Assumes nothing.
 pub mod Returns

@@ -1,14 +1,15 @@
 -- What functions hand back: word by word, function by function, and what that says of the program. Assumes nothing.
 use mathlib.Core.Path.{◌≡◌, refl, sym, ap, ◌∙◌}
 use mathlib.Core.Logic.{◌⊎◌, inl, inr}
-use mathlib.Core.Bool.{true}
+use mathlib.Core.Bool.{Bool, true, false, cond}
 use mathlib.Core.List.{List, Memᴰ}
 use Prim.Native.Nat.{ℕ, zero, suc, ◌+◌, ◌*◌, ◌/◌, ◌%◌, ◌^◌, ◌<◌}
-use native.Mathlib.Nat.{zero-add, add-zero}
+use native.Mathlib.Nat.{zero-add}
 use native.Mathlib.Omega.{arith}
-use lib.ListN.{get_or}
+use lib.ListN.{get_or, replicate}
+use lib.Dec.{ltb}
 use Rattle.words.specs.Words.{bit}
-use Rattle.words.proofs.Bits.{On, on_below}
+use Rattle.words.proofs.Bits.{On, on_below, empty-off}
 use Rattle.rules.specs.Table.{Table, Has}
 use Rattle.program.specs.Program.{Program, is_function, returns_of}
 use Rattle.sets.specs.Value.{words_of, value}
@@ -16,7 +17,28 @@ use Rattle.sets.specs.declared.Set.{Set}
 use Rattle.sets.proofs.Values.{Good, value-lt, value-bit}
 use Rattle.uses.specs.Gather.{row_from, Added}
 use Rattle.uses.proofs.Unions.{Turn, added-wide}
-use Rattle.host.specs.Lays.{Returns, returned_word, returns_for, ReturnsOf, handed_back, Handing}
+use Rattle.host.specs.declared.handed.Returns.{Returns}
+use Rattle.host.specs.Lays.{returned_word, returns_for, returned, ReturnsOf, ReturnsNothing, handed_back, Handing}
+
+-- ---- no variable yet
+
+zeros : (n i : ℕ) → ◌≡◌ {A = ℕ} (get_or (replicate n 0) i 0) 0
+zeros zero i = refl
+zeros (suc n) zero = refl
+zeros (suc n) (suc i) = zeros n i
+
+-- arrays of zeros
+pub no_returns : (r : Returns) → r.first ≡ replicate 256 0 → r.second ≡ replicate 256 0 → r.third ≡ replicate 256 0 → r.fourth ≡ replicate 256 0
+    → ReturnsNothing r
+no_returns r p q s t f x o =
+    let z : get_or (returns_for r f) (4 * (f % 64) + x / 64) 0 ≡ 0 = rw (all (ltb f 64) (ltb f 128) (ltb f 192)) (zeros 256 (4 * (f % 64) + x / 64)) in
+    empty-off (x % 64) (rw z at o)
+  where
+    all : (a b c : Bool) → cond a r.first (cond b r.second (cond c r.third r.fourth)) ≡ replicate 256 0
+    all true b c = p
+    all false true c = q
+    all false false true = s
+    all false false false = t
 
 -- ---- the four words of a function
 
@@ -24,49 +46,45 @@ use Rattle.host.specs.Lays.{Returns, returned_word, returns_for, ReturnsOf, hand
 abbrev pub Step : Table → ℕ → ℕ → ℕ → ℕ → Type 0
 Step t base w start r = Added (row_from base) t w start r × (w < 2 ^ 64)
 
-pub handing-words : {t : Table} {start first second third r : ℕ} (ws : List ℕ) (f : ℕ) → Step t 0 (get_or ws (4 * f) 0) start first
-    → Step t 64 (get_or ws (4 * f + 1) 0) first second → Step t 128 (get_or ws (4 * f + 2) 0) second third
-    → Step t 192 (get_or ws (4 * f + 3) 0) third r → Handing ws f t start r
-handing-words {t} {start} {first} {second} {third} {r} ws f a b c d =
+pub handing-words : {t : Table} {start first second third z : ℕ} (r : Returns) (f : ℕ) (four : Set) → four ≡ returned r f → Step t 0 four.a start first
+    → Step t 64 four.b first second → Step t 128 four.c second third → Step t 192 four.d third z → Handing r f t start z
+handing-words {t} {start} {first} {second} {third} {z} r f four e a b c d =
     record {
       source = λ m h. source m (all.source m h);
       keeps = all.keeps;
-      all = λ x m i h k. all.all x m (same x i ∙ h) (rw zero-add k);
+      all = λ m k. all.all k.0 m (same k.0 k.1 ∙ k.2) (rw zero-add k.3);
     }
   where
-    four : Set
-    four = record { a = get_or ws (4 * f) 0; b = get_or ws (4 * f + 1) 0; c = get_or ws (4 * f + 2) 0; d = get_or ws (4 * f + 3) 0 }
-
     good : Good four
     good = (a.1, b.1, c.1, d.1)
 
-    all : Added (row_from 0) t (value true four) start r
+    all : Added (row_from 0) t (value true four) start z
     all = added-wide {wide = true} 0 four refl good a.0 b.0 c.0 d.0
 
-    word : (q : ℕ) → q < 4 → get_or (words_of four) q 0 ≡ returned_word ws f q
-    word zero h = rw (add-zero (4 * f)) refl
-    word (suc zero) h = refl
-    word (suc (suc zero)) h = refl
-    word (suc (suc (suc zero))) h = refl
+    ws : List ℕ
+    ws = returns_for r f
+
+    word : (q : ℕ) → q < 4 → get_or (words_of four) q 0 ≡ returned_word ws (f % 64) q
+    word zero h = ap (λ (s : Set). s.a) e
+    word (suc zero) h = ap (λ (s : Set). s.b) e
+    word (suc (suc zero)) h = ap (λ (s : Set). s.c) e
+    word (suc (suc (suc zero))) h = ap (λ (s : Set). s.d) e
     word (suc (suc (suc (suc q)))) h = absurd (omega arith)
 
-    same : (x : ℕ) → x < 256 → bit (value true four) x ≡ bit (returned_word ws f (x / 64)) (x % 64)
+    same : (x : ℕ) → x < 256 → bit (value true four) x ≡ bit (returned_word ws (f % 64) (x / 64)) (x % 64)
     same x i =
         value-bit true four (x / 64) (x % 64) good i (omega arith) (omega arith)
         ∙ ap (λ (w : ℕ). bit w (x % 64)) (word (x / 64) (omega arith))
 
-    source : (m : ℕ) → On start m ⊎ ((x : ℕ) × On (value true four) x × Has t (0 + x) m)
-        → On start m ⊎ ((x : ℕ) × (x < 256) × On (returned_word ws f (x / 64)) (x % 64) × Has t x m)
+    source : (m : ℕ) → On start m ⊎ ((x : ℕ) × On (value true four) x × Has t (0 + x) m) → On start m ⊎ handed_back r t f m
     source m (inl h) = inl h
     source m (inr h) =
         let i = on_below 256 (value true four) h.0 (value-lt true four good) h.1 in
         inr (h.0, i, sym (same h.0 i) ∙ h.1, rw zero-add at h.2)
 
--- ---- function by function
-
 -- a turn that joins what a function hands back
-pub turn-handed : {t : Table} {f all next : ℕ} (r : Returns) → Handing (returns_for r f) (f % 64) t all next → Turn (handed_back r) t f all next
-turn-handed r h = record { source = h.source; keeps = h.keeps; told = λ m k. h.all k.0 m k.1 k.2 k.3 }
+pub turn-handed : {r : Returns} {t : Table} {f all next : ℕ} → Handing r f t all next → Turn (handed_back r) t f all next
+turn-handed h = record { source = h.source; keeps = h.keeps; told = h.all }
 
 -- ---- the arrays of a program
 

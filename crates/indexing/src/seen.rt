@@ -1,70 +1,56 @@
-// What the readers of each variable have been used for: a set of labels for each variable, a word of it in each of four arrays. What a variable holds beyond
-// that is new to them. Nothing is promised.
-ghost use Rattle.std.specs.Prelude.{◌≤◌, length};
-ghost use Rattle.rows.specs.Edition.{word_count};
-
-use crate::notes::place_of;
-use rows::Var;
+// What the readers of each variable have been used for: a set of labels for each variable, a word of it in each of four arrays, since none may be longer than
+// 256 words. What a variable holds beyond that is new to them. Nothing is promised.
+use crate::view::View;
 use sets::Set;
 
-// The labels that the readers of variable v have been used for.
-fn seen_in(a: &[u64; 256], b: &[u64; 256], c: &[u64; 256], d: &[u64; 256], v: u8) -> Set {
-    let i = place_of(v);
-    Set {
-        a: a[i],
-        b: b[i],
-        c: c[i],
-        d: d[i],
+#[derive(Drop)]
+pub struct Seen {
+    a: [u64; 256],
+    b: [u64; 256],
+    c: [u64; 256],
+    d: [u64; 256],
+}
+
+impl Seen {
+    pub fn nothing() -> Seen {
+        Seen {
+            a: [0; 256],
+            b: [0; 256],
+            c: [0; 256],
+            d: [0; 256],
+        }
     }
-}
 
-// What is new to them.
-pub fn news_of(
-    t: &[u64],
-    wide: bool,
-    a: &[u64; 256],
-    b: &[u64; 256],
-    c: &[u64; 256],
-    d: &[u64; 256],
-    v: u8,
-) -> Set
-    requires { word_count wide ≤ length t.now }
-{
-    sets::without(wide, uses::held(t, wide, Var(v)), seen_in(a, b, c, d, v))
-}
+    // The labels that the readers of variable v have been used for.
+    fn labels(&self, v: u8) -> Set {
+        let i = usize::from(v);
+        Set {
+            a: self.a[i],
+            b: self.b[i],
+            c: self.c[i],
+            d: self.d[i],
+        }
+    }
 
-// They are being used for all that it holds.
-pub fn see(
-    t: &[u64],
-    wide: bool,
-    a: &mut [u64; 256],
-    b: &mut [u64; 256],
-    c: &mut [u64; 256],
-    d: &mut [u64; 256],
-    v: u8,
-)
-    requires { word_count wide ≤ length t.now }
-{
-    let i = place_of(v);
-    let s = uses::held(t, wide, Var(v));
-    a[i] = s.a;
-    b[i] = s.b;
-    c[i] = s.c;
-    d[i] = s.d;
-}
+    // What is new to them.
+    pub fn news(&self, view: &View, v: u8) -> Set {
+        sets::without(view.wide, view.held(v), self.labels(v))
+    }
 
-// The same for every variable.
-pub fn see_all(
-    t: &[u64],
-    wide: bool,
-    a: &mut [u64; 256],
-    b: &mut [u64; 256],
-    c: &mut [u64; 256],
-    d: &mut [u64; 256],
-)
-    requires { word_count wide ≤ length t.now }
-{
-    for i in 0..256usize {
-        see(t, wide, a, b, c, d, crate::notes::low_byte(i));
+    // They are being used for all that it holds.
+    pub fn see(&mut self, view: &View, v: u8) {
+        let s = view.held(v);
+        let i = usize::from(v);
+        self.a[i] = s.a;
+        self.b[i] = s.b;
+        self.c[i] = s.c;
+        self.d[i] = s.d;
+    }
+
+    // The same for every variable.
+    pub fn see_all(&mut self, view: &View) {
+        for v in 0..=255u8 {
+            self.see(view, v);
+        }
     }
 }

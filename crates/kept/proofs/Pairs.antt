@@ -16,15 +16,7 @@ use Rattle.rows.specs.Run.{number}
 use Rattle.lent.specs.Table.{place}
 use Rattle.lent.specs.Stored.{Stored}
 use Rattle.lent.proofs.Views.{other_row}
-use Rattle.kept.specs.Pairs.{pair_count, kept_set, kept_with, Stays, Refreshed, Cleared, Subset, Asks, part, held, Spares, fewer, Leaves, some, Learns, wider, anew}
-
-pub pair_small : (wide : Bool) (pair : ℕ) → pair < pair_count wide → pair < 128
-pair_small true pair h = omega arith
-pair_small false pair h = omega arith
-
-pub row_fits : (wide : Bool) (pair r : ℕ) → pair < pair_count wide → r ≤ 2 * pair + 1 → place wide 0 r + words wide ≤ 256
-row_fits true pair r h i = omega arith
-row_fits false pair r h i = omega arith
+use Rattle.kept.specs.Pairs.{kept_set, kept_with, Holds, Stays, Refreshed, Cleared, Subset, Asks, part, held, Spares, fewer, Leaves, some, Learns, wider}
 
 pub refreshed : {s v : ℕ} {t u w : List ℕ} (wide : Bool) (pair : ℕ) → Stored (words wide) (place wide 0 (2 * pair)) s t u
     → Stored (words wide) (place wide 0 (2 * pair + 1)) v u w → Refreshed wide pair s v t w
@@ -82,24 +74,20 @@ within-test x y e h l o =
     let z = ap (λ (n : ℕ). bit n l) (eqb-true (difference x y) 0 (sym e ∙ h)) in
     omega (arith, bit-difference x y l, bit-zero l, bit-small y l)
 
-module _ {wide b : Bool} {keeps : List ℕ} {pair a v : ℕ} (i : pair < pair_count wide) (e : a ≡ kept_set wide keeps pair) (f : v ≡ kept_with wide keeps pair) where
-  pub asks-part : {s have rest : ℕ} → b ≡ eqb (difference a s) 0 → b ≡ true → rest ≡ difference s a → Asks wide keeps pair s have v rest true
-  asks-part {s} test h r = part i (rw e at (within-test a s test h)) f (rw (← e) r)
+module _ {wide : Bool} {keeps : List ℕ} {pair a v : ℕ} (now : Holds wide keeps pair a v) where
+  pub asks-part : {b : Bool} {s have rest : ℕ} → b ≡ eqb (difference a s) 0 → b ≡ true → rest ≡ difference s a → Asks wide keeps pair s have v rest true
+  asks-part {s = s} test h r = part now.room (rw now.labels at (within-test a s test h)) now.with (rw (← now.labels) r)
 
-  pub asks-held : {s have base rest : ℕ} → b ≡ eqb (difference v have) 0 → b ≡ true → base ≡ 0 → rest ≡ difference s a
+  pub asks-held : {b : Bool} {s have base rest : ℕ} → b ≡ eqb (difference v have) 0 → b ≡ true → base ≡ 0 → rest ≡ difference s a
       → Asks wide keeps pair s have base rest false
-  asks-held {s} {have} test h z r = held i (rw f at (within-test v have test h)) z (rw (← e) r)
+  asks-held {s = s} {have = have} test h z r = held now.room (rw now.with at (within-test v have test h)) z (rw (← now.labels) r)
 
-  pub spares-held : {s have rest : ℕ} → b ≡ eqb (difference v have) 0 → b ≡ true → rest ≡ difference s a → Spares wide keeps pair s have rest
-  spares-held {s} {have} test h r = fewer (rw f at (within-test v have test h)) (rw (← e) r)
+  pub spares-held : {b : Bool} {s have rest : ℕ} → b ≡ eqb (difference v have) 0 → b ≡ true → rest ≡ difference s a → Spares wide keeps pair s have rest
+  spares-held {s = s} {have = have} test h r = fewer (rw now.with at (within-test v have test h)) (rw (← now.labels) r)
 
-  pub leaves-some : {s x rest : ℕ} → b ≡ eqb (difference x v) 0 → b ≡ true → rest ≡ difference s a → Leaves wide keeps pair s x rest true
-  leaves-some {s} {x} test h r = some i (rw f at (within-test x v test h)) (rw (← e) r)
+  pub leaves-some : {b : Bool} {s x rest : ℕ} → b ≡ eqb (difference x v) 0 → b ≡ true → rest ≡ difference s a → Leaves wide keeps pair s x rest true
+  leaves-some {s = s} {x = x} test h r = some now.room (rw now.with at (within-test x v test h)) (rw (← now.labels) r)
 
-  pub learns-wider : {s rest least x y : ℕ} {after : List ℕ} → b ≡ true → x ≡ union a rest → y ≡ bit_and v least → Refreshed wide pair x y keeps after
-      → Learns wide pair s rest least keeps after b
-  learns-wider skip g h r = rw skip (wider i (rw (g, h, e, f) at r))
-
-pub learns-anew : {wide skip : Bool} {before after : List ℕ} {pair s rest least : ℕ} → pair < pair_count wide → skip ≡ false
-    → Refreshed wide pair s least before after → Learns wide pair s rest least before after skip
-learns-anew i e r = rw e (anew i r)
+  pub learns-wider : {s rest least x y : ℕ} {after : List ℕ} → x ≡ union a rest → y ≡ bit_and v least → Refreshed wide pair x y keeps after
+      → Learns wide pair s rest least keeps after true
+  learns-wider g h r = wider now.room (rw (g, h, now.labels, now.with) at r)

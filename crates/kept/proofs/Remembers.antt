@@ -1,9 +1,9 @@
 -- What is remembered stays true: as tables grow, counted from earlier words, and where pairs are set or emptied. Assumes nothing.
-use mathlib.Core.Path.{◌≡◌, refl, sym, ◌∙◌}
+use mathlib.Core.Path.{◌≡◌, ◌∙◌}
 use mathlib.Core.Logic.{◌⊎◌, inl, inr}
 use mathlib.Core.Bool.{Bool, true, false}
 use mathlib.Core.List.{List}
-use Prim.Native.Nat.{ℕ, ◌≤◌, ◌<◌}
+use Prim.Native.Nat.{ℕ, ◌<◌}
 use native.Mathlib.Decide.{ℕ_discrete, dec_lt}
 use native.Mathlib.Omega.{arith}
 use lib.ListN.{get_or}
@@ -111,14 +111,6 @@ module _ {wide : Bool} {o : ℕ} {p : Program} where
             record { union = λ looked. absurd (e.1 looked); meet = rw (e.0.0, e.0.1) (h.pair q j).meet }
 
 -- ---- what `forget` empties
-
-pub first_fits : (wide : Bool) → 17 ≤ pair_count wide
-first_fits true = omega arith
-first_fits false = omega arith
-
-pub small-room : (wide : Bool) → wide ≡ false → pair_count wide ≡ 128
-small-room true e = never (sym e)
-small-room false e = refl
 
 -- where there is room for 32 pairs
 pub forgets-first : {before after : List ℕ} (wide : Bool) → wide ≡ true → Cleared wide 0 17 before after → (q : ℕ) → q < pair_count wide

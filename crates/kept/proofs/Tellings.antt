@@ -2,7 +2,7 @@
 -- Assumes nothing.
 use mathlib.Core.Path.{◌≡◌, refl, sym}
 use mathlib.Core.Logic.{inl, inr, ⊎_elim}
-use mathlib.Core.Bool.{Bool, true}
+use mathlib.Core.Bool.{Bool}
 use mathlib.Core.List.{List}
 use Prim.Native.Nat.{ℕ, ◌<◌}
 use lib.Bits.{or_zero_l, or_zero_r}
@@ -16,13 +16,6 @@ use Rattle.kept.specs.Pairs.{pair_count, kept_set, kept_with, Asks, part, held, 
 use Rattle.kept.specs.Promise.{Slot, slot_of, Tells, Unites, Union, Promise, Remembers, Answer, Tellings}
 use Rattle.kept.proofs.Pairs.{never}
 use Rattle.kept.proofs.Remembers.{tells-monotone, takes-nothing, promised, remembers-set}
-
--- there is room for an answer that may be kept
-pub asks-room : {wide fresh : Bool} {keeps : List ℕ} {pair s have base rest : ℕ} → Asks wide keeps pair s have base rest fresh → fresh ≡ true
-    → pair < pair_count wide
-asks-room (part i a b c) e = i
-asks-room (held i a b c) e = i
-asks-room (all i a b) e = i e
 
 -- ---- unions put together
 
@@ -124,9 +117,8 @@ tellings {wide} {fresh} {pair} {s} {have} {base} {rest} {more} {r} {before} {aft
     go (all i e f) g a = whole (rw (a.joined, e, union-none-left more) (gathered-all then (rw f at g))) a
 
 -- no label is left to be read
-pub tellings-known : {wide fresh : Bool} {pair s have base rest : ℕ} {keeps : List ℕ} {slot : Slot} (p : Program) (t : List ℕ) → Union slot
-    → (pair < pair_count wide → slot_of pair ≡ slot) → Asks wide keeps pair s have base rest fresh → rest ≡ 0
-    → Tellings wide p slot t s have base keeps keeps
-tellings-known {base = base} p t looked here asks e =
-    tellings p t looked here asks (rw e (record { source = λ m h. absurd (empty-off m h); all = λ l m h i. absurd (empty-off l h) }))
+pub tellings-known : {wide fresh : Bool} {pair s have base : ℕ} {keeps : List ℕ} {slot : Slot} (p : Program) (t : List ℕ) → Union slot
+    → (pair < pair_count wide → slot_of pair ≡ slot) → Asks wide keeps pair s have base 0 fresh → Tellings wide p slot t s have base keeps keeps
+tellings-known {base = base} p t looked here asks =
+    tellings p t looked here asks (record { source = λ m h. absurd (empty-off m h); all = λ l m h i. absurd (empty-off l h) })
     (record { joined = sym (union-none-right base); left = inl refl })

@@ -5,7 +5,10 @@ use Rattle.std.specs.Int.Bits.{bit_and}
 use Rattle.words.specs.Words.{bit, union, difference}
 use Rattle.rows.specs.Edition.{words}
 use Rattle.rows.specs.Run.{number}
+use Rattle.sets.specs.Value.{value}
 use Rattle.lent.specs.Table.{place}
+use Rattle.kept.specs.declared.Asked.{Asked}
+use Rattle.kept.specs.declared.Asked.TheVariants.{Told, Open}
 
 -- how many pairs the array of 256 words has room for
 abbrev pub pair_count : Bool → ℕ
@@ -18,6 +21,12 @@ kept_set wide keeps pair = number (words wide) keeps (place wide 0 (2 * pair))
 
 abbrev pub kept_with : Bool → List ℕ → ℕ → ℕ
 kept_with wide keeps pair = number (words wide) keeps (place wide 0 (2 * pair + 1))
+
+-- a pair has room, and stands for these two sets
+pub record Holds (wide : Bool) (keeps : List ℕ) (pair s v : ℕ) : Type 0 where
+  pub room : pair < pair_count wide
+  pub labels : s ≡ kept_set wide keeps pair
+  pub with : v ≡ kept_with wide keeps pair
 
 -- a pair stayed
 abbrev pub Stays : Bool → List ℕ → List ℕ → ℕ → Type 0
@@ -47,6 +56,11 @@ pub data Asks (wide : Bool) (keeps : List ℕ) (pair s have base rest : ℕ) : B
   held : pair < pair_count wide → Subset (kept_with wide keeps pair) have → base ≡ 0 → rest ≡ difference s (kept_set wide keeps pair)
       → Asks wide keeps pair s have base rest false
   all : {fresh : Bool} → (fresh ≡ true → pair < pair_count wide) → base ≡ 0 → rest ≡ s → Asks wide keeps pair s have base rest fresh
+
+-- the same, of what the function hands back: all is told where nothing is left to be read
+abbrev pub AsksFor : Bool → List ℕ → ℕ → ℕ → ℕ → Asked → Type 0
+AsksFor wide keeps pair s have (Told told) = (fresh : Bool) × Asks wide keeps pair s have (value wide told) 0 fresh
+AsksFor wide keeps pair s have (Open rest) = Asks wide keeps pair s have (value wide rest.base) (value wide rest.labels) rest.fresh
 
 -- Which labels of s may tell what `have` lacks: those of the kept set do not, where the kept union is held already.
 pub data Spares (wide : Bool) (keeps : List ℕ) (pair s have rest : ℕ) : Type 0 where

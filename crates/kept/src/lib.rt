@@ -2,23 +2,20 @@
 // labels as the one before it, which is what most records do, then costs a few tests of words. Nothing here reads the table.
 #![tactic(auto)]
 
-ghost use Rattle.std.specs.Prelude.{◌≡◌, true, List, ℕ, ◌≤◌, ◌<◌};
+ghost use Rattle.std.specs.Prelude.{◌≡◌, true, List, ℕ, ◌≤◌, ◌<◌, IfSome, IfNone, is_some, unwrap_or};
 ghost use Rattle.layout.specs.Key.{Key};
 ghost use Rattle.sets.specs.Value.{value};
 ghost use Rattle.program.specs.Program.{Program};
-ghost use Rattle.kept.specs.Pairs.{pair_count, kept_set, kept_with, Refreshed, Cleared, Asks, Spares, Answers, Leaves, Learns};
+ghost use Rattle.kept.specs.Pairs.{pair_count, Holds, Refreshed, Cleared, Asks, AsksFor, Spares, Answers, Leaves, Learns};
 ghost use Rattle.kept.specs.Promise.{under, stored, slot_of, Remembers};
 
 use sets::Set;
 
-// Whether there is room for a pair.
-pub fn is_kept(wide: bool, pair: usize) -> bool
-    ensures { result ≡ true → pair < pair_count wide }
+// How many pairs there is room for.
+fn count(wide: bool) -> usize
+    ensures { result ≡ pair_count wide }
 {
-    if wide {
-        return pair < 32;
-    }
-    pair < 128
+    if wide { 32 } else { 128 }
 }
 
 // The pair becomes s and v.
@@ -30,167 +27,137 @@ fn keep(keeps: &mut [u64; 256], wide: bool, pair: usize, s: Set, v: Set)
     lent::write(keeps, 0, wide, 2 * pair + 1, v);
 }
 
-// The set of a pair.
-fn set_of(keeps: &[u64; 256], wide: bool, pair: usize) -> Set
-    requires { pair < pair_count wide }
-    ensures { value wide result ≡ kept_set wide keeps.now pair }
-{
-    lent::row(keeps, 0, wide, 2 * pair)
-}
-
-// The union or meet of a pair.
-fn with_of(keeps: &[u64; 256], wide: bool, pair: usize) -> Set
-    requires { pair < pair_count wide }
-    ensures { value wide result ≡ kept_with wide keeps.now pair }
-{
-    lent::row(keeps, 0, wide, 2 * pair + 1)
-}
-
-// What a union asks: `base` is told already, `rest` is to be read, no label where `known`; and where the pair is of use no longer or the answer is larger, it
-// may take its place.
+// What stands in a pair: labels, and the union or the meet over them.
 #[derive(Clone, Copy)]
-pub struct Asked {
+struct Kept {
+    labels: Set,
+    over: Set,
+}
+
+// What stands in a pair, if there is room for it.
+fn read(keeps: &[u64; 256], wide: bool, pair: usize) -> Option<Kept>
+    ensures { IfSome result (λ now. Holds wide keeps.now pair (value wide now.labels) (value wide now.over)) }
+{
+    if count(wide) <= pair {
+        return None;
+    }
+    Some(Kept {
+        labels: lent::row(keeps, 0, wide, 2 * pair),
+        over: lent::row(keeps, 0, wide, 2 * pair + 1),
+    })
+}
+
+// What is still to be read for a union: `base` is told already, and the labels are to be read. `fresh` says that the answer may take the pair's place, which
+// is of use no longer or is for fewer labels.
+#[derive(Clone, Copy)]
+pub struct Rest {
     pub base: Set,
-    pub rest: Set,
-    pub known: bool,
+    pub labels: Set,
     pub fresh: bool,
+}
+
+// What the pair says of a union: all of it, or some.
+#[derive(Clone, Copy)]
+pub enum Asked {
+    Told(Set),
+    Open(Rest),
+}
+
+// The rest of s is to be read, if there is any.
+fn told_but(wide: bool, base: Set, labels: Set, fresh: bool) -> Asked
+    ensures { (keeps : List ℕ) (pair s have : ℕ) → Asks wide keeps pair s have (value wide base) (value wide labels) fresh → AsksFor wide keeps pair s have result }
+{
+    if sets::is_empty(wide, labels) {
+        return Asked::Told(base);
+    }
+    Asked::Open(Rest {
+        base,
+        labels,
+        fresh,
+    })
 }
 
 // What is still to be read for the union over s, where what `have` holds need not be told.
 pub fn ask(keeps: &[u64; 256], wide: bool, pair: usize, s: Set, have: Set) -> Asked
-    ensures { Asks wide keeps.now pair (value wide s) (value wide have) (value wide result.base) (value wide result.rest) result.fresh × (result.known ≡ true → value wide result.rest ≡ 0) }
+    ensures { AsksFor wide keeps.now pair (value wide s) (value wide have) result }
 {
     let none = sets::none(wide);
-    let whole = Asked {
-        base: none,
-        rest: s,
-        known: false,
-        fresh: false,
-    };
-    if !is_kept(wide, pair) {
-        return whole;
-    }
-    let a = set_of(keeps, wide, pair);
-    let v = with_of(keeps, wide, pair);
-    let rest = sets::without(wide, s, a);
-    let known = sets::is_empty(wide, rest);
-    if sets::is_within(wide, a, s) {
-        return Asked {
-            base: v,
-            rest,
-            known,
-            fresh: true,
-        };
-    }
-    if sets::is_within(wide, v, have) {
-        return Asked {
+    let Some(now) = read(keeps, wide, pair) else {
+        return Asked::Open(Rest {
             base: none,
-            rest,
-            known,
+            labels: s,
             fresh: false,
-        };
+        });
+    };
+    let labels = sets::without(wide, s, now.labels);
+    if sets::is_within(wide, now.labels, s) {
+        return told_but(wide, now.over, labels, true);
     }
-    Asked {
+    if sets::is_within(wide, now.over, have) {
+        return told_but(wide, none, labels, false);
+    }
+    Asked::Open(Rest {
         base: none,
-        rest: s,
-        known: false,
-        fresh: sets::size(wide, a) <= sets::size(wide, s),
-    }
+        labels: s,
+        fresh: sets::size(wide, now.labels) <= sets::size(wide, s),
+    })
 }
 
 // The labels of s that may tell what `have` lacks: those of the kept set do not, where the kept union is held already.
 pub fn spare(keeps: &[u64; 256], wide: bool, pair: usize, s: Set, have: Set) -> Set
-    requires { pair < pair_count wide }
     ensures { Spares wide keeps.now pair (value wide s) (value wide have) (value wide result) }
 {
-    let v = with_of(keeps, wide, pair);
-    if sets::is_within(wide, v, have) {
-        let a = set_of(keeps, wide, pair);
-        return sets::without(wide, s, a);
+    match read(keeps, wide, pair) {
+        Some(now) if sets::is_within(wide, now.over, have) => sets::without(wide, s, now.labels),
+        _ => s,
     }
-    s
 }
 
+// What was read of more labels than this is kept.
+const FEW: u32 = 3;
+
 // The union, once `more` was read of the rest; a large one is kept.
-pub fn answer(
-    keeps: &mut [u64; 256],
-    wide: bool,
-    pair: usize,
-    s: Set,
-    asked: Asked,
-    more: Set,
-) -> Set
-    requires { asked.fresh ≡ true → pair < pair_count wide }
-    ensures { Answers wide pair (value wide s) (value wide asked.base) (value wide more) (value wide result) asked.fresh keeps.old keeps.new }
+pub fn answer(keeps: &mut [u64; 256], wide: bool, pair: usize, s: Set, rest: Rest, more: Set) -> Set
+    requires { rest.fresh ≡ true → pair < pair_count wide }
+    ensures { Answers wide pair (value wide s) (value wide rest.base) (value wide more) (value wide result) rest.fresh keeps.old keeps.new }
 {
-    let base = asked.base;
-    let rest = asked.rest;
-    let all = sets::union(wide, base, more);
-    if asked.fresh {
-        if 3 < sets::size(wide, rest) {
-            keep(keeps, wide, pair, s, all);
-        }
+    let all = sets::union(wide, rest.base, more);
+    if rest.fresh && FEW < sets::size(wide, rest.labels) {
+        keep(keeps, wide, pair, s, all);
     }
     all
 }
 
-// What a spread leaves to do: the labels whose rows may lack something; `skip` says that some were passed over.
-#[derive(Clone, Copy)]
-pub struct Left {
-    pub rest: Set,
-    pub skip: bool,
+// Which labels of s are still to be given x, if the rows of some hold it already; else all of them are.
+pub fn leave(keeps: &[u64; 256], wide: bool, pair: usize, s: Set, x: Set) -> Option<Set>
+    ensures { Leaves wide keeps.now pair (value wide s) (value wide x) (value wide (unwrap_or result s)) (is_some result) }
+{
+    let now = read(keeps, wide, pair)?;
+    sets::is_within(wide, x, now.over).then(|| sets::without(wide, s, now.labels))
 }
 
-// Which labels of s are still to be given x.
-pub fn leave(keeps: &[u64; 256], wide: bool, pair: usize, s: Set, x: Set) -> Left
-    ensures { Leaves wide keeps.now pair (value wide s) (value wide x) (value wide result.rest) result.skip }
+// The rows of the labels that were left were given x, and all of them hold `least`: kept, if they are many.
+pub fn learn(keeps: &mut [u64; 256], wide: bool, pair: usize, s: Set, left: Option<Set>, least: Set)
+    ensures { Learns wide pair (value wide s) (value wide (unwrap_or left s)) (value wide least) keeps.old keeps.new (is_some left) }
 {
-    if !is_kept(wide, pair) {
-        return Left {
-            rest: s,
-            skip: false,
-        };
-    }
-    let least = with_of(keeps, wide, pair);
-    if sets::is_within(wide, x, least) {
-        let a = set_of(keeps, wide, pair);
-        return Left {
-            rest: sets::without(wide, s, a),
-            skip: true,
-        };
-    }
-    Left {
-        rest: s,
-        skip: false,
-    }
-}
-
-// The rows of the rest were given x, and all of them hold `least`: kept, if they are many.
-pub fn learn(keeps: &mut [u64; 256], wide: bool, pair: usize, s: Set, left: Left, least: Set)
-    ensures { Learns wide pair (value wide s) (value wide left.rest) (value wide least) keeps.old keeps.new left.skip }
-{
-    let rest = left.rest;
-    let n = sets::size(wide, rest);
-    if !is_kept(wide, pair) {
+    let Some(now) = read(keeps, wide, pair) else {
+        return;
+    };
+    let n = sets::size(wide, left.unwrap_or(s));
+    if n <= FEW {
         return;
     }
-    if n <= 3 {
-        return;
-    }
-    let a = set_of(keeps, wide, pair);
-    if left.skip {
-        let v = with_of(keeps, wide, pair);
-        keep(
-            keeps,
-            wide,
-            pair,
-            sets::union(wide, a, rest),
-            sets::meet(wide, v, least),
-        );
-        return;
-    }
-    if sets::size(wide, a) <= n {
-        keep(keeps, wide, pair, s, least);
+    match left {
+        Some(rest) => {
+            let labels = sets::union(wide, now.labels, rest);
+            let over = sets::meet(wide, now.over, least);
+            keep(keeps, wide, pair, labels, over);
+        }
+        None => {
+            if sets::size(wide, now.labels) <= n {
+                keep(keeps, wide, pair, s, least);
+            }
+        }
     }
 }
 
@@ -200,10 +167,8 @@ fn clear(keeps: &mut [u64; 256], wide: bool, from: usize, to: usize)
     ensures { Cleared wide from to keeps.old keeps.new }
 {
     let none = sets::none(wide);
-    let mut pair = from;
-    while pair < to {
+    for pair in from..to {
         keep(keeps, wide, pair, none, none);
-        pair += 1;
     }
 }
 
@@ -229,7 +194,9 @@ pub const INPUTS: usize = 17;
 // What is under a key: the first is of class 0, which has every name, and those of classes 1 to 7 follow.
 pub const UNDER: usize = 6;
 
-// Under single names, and under the names outside classes 0 to 7.
+// Under the names 1 to 3, behind those of the classes; under other single names, and under the names outside classes 0 to 7.
+const UNDER_OFTEN: usize = 13;
+
 const UNDER_NAMES: usize = 32;
 
 const UNDER_OUTSIDE: usize = 64;
@@ -241,39 +208,56 @@ const STORED_OUTSIDE: usize = 72;
 
 const STORED_NAMES: usize = 80;
 
-// The pair for the properties under a key.
-pub fn under_pair(key: u8) -> usize
+// The pair for the properties under a key, room or none.
+fn under_at(key: u8) -> usize
     requires { Key key }
     ensures result_value { slot_of result ≡ under key }
     ensures bound { result < 128 }
 {
     if layout::OUTSIDE <= key {
-        return UNDER_OUTSIDE + ((key - layout::OUTSIDE) as usize);
+        return UNDER_OUTSIDE + usize::from(key - layout::OUTSIDE);
     }
     if layout::INSIDE <= key {
-        return UNDER + ((key - layout::INSIDE) as usize);
+        return UNDER + usize::from(key - layout::INSIDE);
     }
-    let k = key as usize;
-    if k == 0 {
-        return UNDER_NAMES;
+    match usize::from(key) {
+        0 => UNDER_NAMES,
+        k @ 1..=3 => UNDER_OFTEN + k,
+        k => UNDER_NAMES + k,
     }
-    if k < 4 {
-        return 13 + k;
-    }
-    UNDER_NAMES + k
 }
 
-// The pair for values that are stored under a key.
-pub fn stored_pair(key: u8) -> usize
+// The pair for values that are stored under a key, room or none.
+fn stored_at(key: u8) -> usize
     requires { Key key }
     ensures result_value { slot_of result ≡ stored key }
     ensures bound { result < 128 }
 {
     if layout::OUTSIDE <= key {
-        return STORED_OUTSIDE + ((key - layout::OUTSIDE) as usize);
+        return STORED_OUTSIDE + usize::from(key - layout::OUTSIDE);
     }
     if layout::INSIDE <= key {
-        return STORED + ((key - layout::INSIDE) as usize);
+        return STORED + usize::from(key - layout::INSIDE);
     }
-    STORED_NAMES + (key as usize)
+    STORED_NAMES + usize::from(key)
+}
+
+// The pair for the properties under a key, if there is room for it.
+pub fn under_pair(wide: bool, key: u8) -> Option<usize>
+    requires { Key key }
+    ensures some { IfSome result (λ pair. (slot_of pair ≡ under key) × (pair < pair_count wide)) }
+    ensures none { IfNone result (wide ≡ true) }
+{
+    let pair = under_at(key);
+    (pair < count(wide)).then_some(pair)
+}
+
+// The pair for values that are stored under a key, if there is room for it.
+pub fn stored_pair(wide: bool, key: u8) -> Option<usize>
+    requires { Key key }
+    ensures some { IfSome result (λ pair. (slot_of pair ≡ stored key) × (pair < pair_count wide)) }
+    ensures none { IfNone result (wide ≡ true) }
+{
+    let pair = stored_at(key);
+    (pair < count(wide)).then_some(pair)
 }

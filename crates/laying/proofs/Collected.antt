@@ -3,15 +3,12 @@ use mathlib.Core.Path.{◌≡◌, refl, sym, ap, ap₂, subst, ◌∙◌}
 use mathlib.Core.Logic.{◌⊎◌, inl, inr}
 use mathlib.Core.List.Memᴰ
 use mathlib.Core.List.{List, [], ◌∷◌, ◌++◌, Memᴰ, append-nil}
-use mathlib.Core.Bool.{Bool, true, false, cond}
-use Prim.Native.Nat.{ℕ, zero, suc, ◌+◌, ◌*◌, ◌/◌, ◌%◌, ◌≤◌, ◌<◌}
+use Prim.Native.Nat.{ℕ, ◌+◌, ◌≤◌, ◌<◌}
 use native.Mathlib.Decide.{ℕ_discrete}
 use native.Mathlib.Omega.{arith}
-use lib.ListN.{length, get_or, drop, replicate, length-replicate}
+use lib.ListN.{length, get_or, drop}
 use lib.Seq.{get_or-take, get_or-drop}
-use lib.Dec.{ltb}
 use borrow.Author.Tests.{eqb-true}
-use Rattle.words.proofs.Bits.{empty-off}
 use Rattle.layout.specs.Layout.{body_length}
 use Rattle.format.specs.Sheet.{type_of}
 use Rattle.format.specs.Records.{Record}
@@ -22,10 +19,11 @@ use Rattle.format.proofs.Ready.{Among, Made}
 use Rattle.format.proofs.Readable.{readable-ready}
 use Rattle.program.specs.Program.{program_of, program_in}
 use Rattle.analysis.proofs.Returned.{returns-handed, handed-returns}
-use Rattle.host.specs.Lays.{Returns, returns_for, HandsBack, ReturnsOf}
+use Rattle.host.specs.declared.handed.Returns.{Returns}
+use Rattle.host.specs.Lays.{HandsBack, ReturnsOf, ReturnsNothing}
 use Rattle.records.specs.Walk.{Walk}
 use Rattle.records.proofs.Walks.{here, body-at, onward, next-done, rest_end}
-use Rattle.laying.specs.Marked.{Whole, Marked, MarkedAt}
+use Rattle.laying.specs.Marked.{Marked, MarkedAt}
 
 -- the record that says so
 abbrev returning : ℕ → ℕ → Record
@@ -37,46 +35,16 @@ By rs f x = ((f ≡ 3) × (x ≡ 1)) ⊎ Memᴰ (returning f x) rs
 
 -- the arrays hold what the guest and these records return
 pub record Collected (r : Returns) (rs : List Record) : Type 0 where
-  pub whole : Whole r
   pub source : (f x : ℕ) → f < 256 → x < 256 → HandsBack r f x → By rs f x
   pub all : (f x : ℕ) → f < 256 → By rs f x → (x < 256) × HandsBack r f x
 
 -- ---- the guest's return
 
--- every word is 0
-abbrev pub Empty : Returns → Type 0
-Empty r = (r.first ≡ replicate 256 0) × (r.second ≡ replicate 256 0) × (r.third ≡ replicate 256 0) × (r.fourth ≡ replicate 256 0)
-
-pub empty-whole : (r : Returns) → Empty r → Whole r
-empty-whole r e = (long e.0, long e.1, long e.2, long e.3)
-  where
-    long : {ws : List ℕ} → ws ≡ replicate 256 0 → length ws ≡ 256
-    long q = ap length q ∙ length-replicate {A = ℕ} 256 0
-
-zeros : (n i : ℕ) → ◌≡◌ {A = ℕ} (get_or (replicate n 0) i 0) 0
-zeros zero i = refl
-zeros (suc n) zero = refl
-zeros (suc n) (suc i) = zeros n i
-
-empty-for : (r : Returns) → Empty r → (f : ℕ) → returns_for r f ≡ replicate 256 0
-empty-for r e f = go (ltb f 64) (ltb f 128) (ltb f 192)
-  where
-    go : (a b c : Bool) → cond a r.first (cond b r.second (cond c r.third r.fourth)) ≡ replicate 256 0
-    go true b c = e.0
-    go false true c = e.1
-    go false false true = e.2
-    go false false false = e.3
-
-empty-none : (r : Returns) → Empty r → (f x : ℕ) → HandsBack r f x → ⊥
-empty-none r e f x o =
-    let z : get_or (returns_for r f) (4 * (f % 64) + x / 64) 0 ≡ 0 = rw (empty-for r e f) (zeros 256 (4 * (f % 64) + x / 64)) in
-    empty-off (x % 64) (rw z at o)
-
-pub collected-first : {r u : Returns} → Empty r → Marked 3 1 r u → Collected u []
-collected-first {r} {u} e m = record { whole = m.whole; source = λ f x h i o. source f x (m.source f x h i o); all = λ f x h. all f x }
+pub collected-first : {r u : Returns} → ReturnsNothing r → Marked 3 1 r u → Collected u []
+collected-first {r} {u} e m = record { source = λ f x h i o. source f x (m.source f x h i o); all = λ f x h. all f x }
   where
     source : (f x : ℕ) → HandsBack r f x ⊎ ((f ≡ 3) × (x ≡ 1)) → By [] f x
-    source f x (inl o) = absurd (empty-none r e f x o)
+    source f x (inl o) = absurd (e f x o)
     source f x (inr q) = inl q
 
     all : (f x : ℕ) → By [] f x → (x < 256) × HandsBack u f x
@@ -98,7 +66,6 @@ collected-return : {r u : Returns} {rs : List Record} (front : Record) (k v : �
     → Collected u (rs ++ (front ∷ []))
 collected-return {r} {u} {rs} front k v e small m c =
     record {
-      whole = m.whole;
       source = λ f x h i o. source f x h i (m.source f x h i o);
       all = λ f x h b. all f x h (by_cases rs front f x b);
     }
@@ -119,7 +86,6 @@ collected-return {r} {u} {rs} front k v e small m c =
 collected-other : {r : Returns} {rs : List Record} (front : Record) → (front.kind ≡ 23 → ⊥) → Collected r rs → Collected r (rs ++ (front ∷ []))
 collected-other {r} {rs} front d c =
     record {
-      whole = c.whole;
       source = λ f x h i o. by-more rs front f x (c.source f x h i o);
       all = λ f x h b. all f x h (by_cases rs front f x b);
     }

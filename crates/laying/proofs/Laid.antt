@@ -1,38 +1,30 @@
--- The array `host` once its words are stored is that of the program. Assumes nothing.
+-- What is laid from a sheet is what the program says. Assumes nothing.
 use mathlib.Core.Path.{◌≡◌, refl, sym, ap, ◌∙◌}
 use mathlib.Core.Logic.{◌↔◌, inl, inr}
 use mathlib.Core.List.Memᴰ
 use mathlib.Core.List.{List, [], ◌∷◌, Memᴰ}
 use mathlib.Core.Bool.{Bool, true, false, cond}
-use Prim.Native.Nat.{ℕ, ◌+◌, ◌-◌, ◌^◌, ◌≤◌, ◌<◌}
+use Prim.Native.Nat.{ℕ, ◌+◌, ◌-◌, ◌^◌, ◌<◌}
 use native.Mathlib.Decide.{dec_lt}
 use native.Mathlib.Omega.{arith}
-use lib.ListN.{length, get_or, set, take, length-take, get_or-eq_default}
-use lib.Seq.{get_or-take, get_or-set_same, get_or-set_other}
+use lib.ListN.{get_or, take, length-take, get_or-eq_default}
+use lib.Seq.{get_or-take}
 use lib.Dec.{eqb, ltb}
 use borrow.Author.Tests.{ltb-true, ltb-false, eqb-true}
 use Rattle.words.specs.Words.{bit, difference}
 use Rattle.words.proofs.Laws.{ones-on}
 use Rattle.words.proofs.Bits.{on-single, single-only, on_below, on-difference, difference-off, difference-on}
-use Rattle.rows.specs.Edition.{labels, words}
+use Rattle.rows.specs.Edition.{labels}
 use Rattle.layout.specs.Key.{inside, outside, Key}
 use Rattle.layout.proofs.Keys.{key_below}
 use Rattle.rules.specs.Rule.{chosen}
 use Rattle.rules.proofs.Labels.{chosen-passes, passes-chosen}
 use Rattle.format.proofs.Tests.{untrue, not-both}
 use Rattle.program.specs.Program.{Program, in_class, outside_class, names_of, guest_class}
-use Rattle.program.proofs.Held.{class-below}
-use Rattle.rows.specs.Run.{number}
-use Rattle.rows.proofs.Run.{number_same}
-use Rattle.lent.specs.Table.{place}
-use Rattle.lent.specs.Stored.{Stored}
+use Rattle.sheet.specs.declared.Sheet.{Sheet}
+use Rattle.host.specs.declared.Host.{Host}
 use Rattle.host.specs.Lays.{functions_in, built_ins_in, class_in, guest_key_in, all_names, names_in, Lays}
-use Rattle.host.proofs.Rows.{row_first}
 use Rattle.laying.specs.Holds.{Holds, has_byte, Classes}
-
-few : (wide : Bool) → words wide ≤ 4
-few true = omega arith
-few false = omega arith
 
 -- a byte of the labels of the edition
 taken : (bytes : List ℕ) (L b l : ℕ) → 0 < b → (eqb (get_or (take L bytes) l 0) b ≡ true) ↔ ((l < L) × (has_byte bytes b l ≡ true))
@@ -44,32 +36,14 @@ taken bytes L b l h = (λ e. into e (dec_lt l L), λ q. ap (λ (x : ℕ). eqb x 
         let none : get_or (take L bytes) l 0 ≡ 0 = get_or-eq_default (take L bytes) 0 (simp length-take (omega (arith, i))) in
         absurd (omega (arith, none, eqb-true (get_or (take L bytes) l 0) b e))
 
-module _ (wide : Bool) (types flags : List ℕ) (profile class : ℕ) {masks t u v x : List ℕ} {fs bs : ℕ} (f : Holds (has_byte types 2) (labels wide) fs)
-    (b : Holds (has_byte flags 1) (labels wide) bs) (first : Stored (words wide) (place wide 0 0) fs t u) (second : Stored (words wide) (place wide 4 0) bs u v)
-    (third : Classes 8 masks v x) (long : 16 < length x) (class-is : class ≡ cond (ltb profile 8) profile 0) where
-  -- the last word is the guest's class, and the others are as they were
-  abbrev w : List ℕ
-  w = set x 16 class
-
-  same : (i : ℕ) → i < 16 → get_or w i 0 ≡ get_or x i 0
-  same i h = get_or-set_other x 16 i class 0 (λ e. omega arith)
-
-  functions-are : functions_in wide w ≡ fs
-  functions-are =
-      number_same (words wide) w u 0 0 (λ m h. same (0 + m) (omega (arith, few wide)) ∙ third.same (0 + m) (omega (arith, few wide))
-      ∙ second.apart (0 + m) (inl (omega (arith, row_first wide 4, few wide))))
-      ∙ ap (λ (i : ℕ). number (words wide) u i) (sym (row_first wide 0)) ∙ first.here
-
-  built-ins-are : built_ins_in wide w ≡ bs
-  built-ins-are =
-      number_same (words wide) w v 4 4 (λ m h. same (4 + m) (omega (arith, few wide)) ∙ third.same (4 + m) (omega (arith, few wide)))
-      ∙ ap (λ (i : ℕ). number (words wide) v i) (sym (row_first wide 4)) ∙ second.here
-
-  module _ (p : Program) (masks-are : p.sheet.masks ≡ masks) where
+module _ (wide : Bool) (s : Sheet) (w : Host) (f : Holds (has_byte s.types 2) (labels wide) (functions_in wide w))
+    (b : Holds (has_byte s.flags 1) (labels wide) (built_ins_in wide w)) (held : Classes 8 s.masks w.classes)
+    (class-is : w.guest_class ≡ cond (ltb s.profile 8) s.profile 0) where
+  module _ (p : Program) (masks-are : p.sheet.masks ≡ s.masks) where
     -- the names of a class, and those outside it
     in-class : (c n : ℕ) → c < 8 → (bit (class_in w c) n ≡ 1) ↔ ((n < 32) × (in_class p.sheet c n ≡ true))
     unfolding bit
-    in-class c n h = rw (masks-are, same (8 + c) (omega arith)) (third.names c h n)
+    in-class c n h = rw masks-are (held c h n)
 
     class-named : (c n : ℕ) → c < 8 → (bit (class_in w c) n ≡ 1) ↔ Memᴰ n (chosen (in_class p.sheet c) 32)
     class-named c n h = (
@@ -105,20 +79,18 @@ module _ (wide : Bool) (types flags : List ℕ) (profile class : ℕ) {masks t u
         go false true e f = class-named (key - inside) n (omega (arith, ltb-false key inside e, ltb-true key outside f))
         go false false e f = outside-named (key - outside) n (omega (arith, ltb-false key outside f, key_below key k))
 
-    guest-keyed : p.sheet.profile ≡ profile → guest_key_in w ≡ inside + guest_class p.sheet
-    guest-keyed e =
-        let here : get_or w 16 0 ≡ guest_class p.sheet = get_or-set_same x 16 class 0 long ∙ class-is ∙ ap (λ (c : ℕ). cond (ltb c 8) c 0) (sym e) in
-        omega (arith, here, class-below p.sheet)
+    guest-keyed : p.sheet.profile ≡ s.profile → guest_key_in w ≡ inside + guest_class p.sheet
+    guest-keyed e = let here : w.guest_class ≡ guest_class p.sheet = class-is ∙ ap (λ (c : ℕ). cond (ltb c 8) c 0) (sym e) in ap (λ (c : ℕ). inside + c) here
 
-    pub lays : p.sheet.types ≡ take (labels wide) types → p.sheet.flags ≡ take (labels wide) flags → p.sheet.profile ≡ profile → Lays wide p w
+    pub lays : p.sheet.types ≡ take (labels wide) s.types → p.sheet.flags ≡ take (labels wide) s.flags → p.sheet.profile ≡ s.profile → Lays wide p w
     lays types_are flags-are profile-is =
         record {
-          functions = λ l. rw (functions-are, types_are) (
-              let s = taken types (labels wide) 2 l (omega arith) in
-              (λ o. s.1 ((f l).0 o), λ e. (f l).1 (s.0 e)));
-          built-ins = λ l. rw (built-ins-are, flags-are) (
-              let s = taken flags (labels wide) 1 l (omega arith) in
-              (λ o. s.1 ((b l).0 o), λ e. (b l).1 (s.0 e)));
+          functions = λ l. rw types_are (
+              let q = taken s.types (labels wide) 2 l (omega arith) in
+              (λ o. q.1 ((f l).0 o), λ e. (f l).1 (q.0 e)));
+          built-ins = λ l. rw flags-are (
+              let q = taken s.flags (labels wide) 1 l (omega arith) in
+              (λ o. q.1 ((b l).0 o), λ e. (b l).1 (q.0 e)));
           names = named;
           guest-key = guest-keyed profile-is;
         }

@@ -3,3 +3,4 @@ pub mod Words
 pub mod Laid
 pub mod Marks
 pub mod Collected
+pub mod Arrays

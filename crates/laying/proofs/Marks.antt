@@ -12,8 +12,9 @@ use lib.Dec.{ltb}
 use borrow.Author.Tests.{ltb-true, ltb-false}
 use Rattle.words.specs.Words.{union}
 use Rattle.words.proofs.Bits.{On, on-union, on-left, on-right, on-single, single-only}
-use Rattle.host.specs.Lays.{Returns, returned_word, returns_for, HandsBack}
-use Rattle.laying.specs.Marked.{Whole, with_mark, Marked}
+use Rattle.host.specs.declared.handed.Returns.{Returns}
+use Rattle.host.specs.Lays.{returned_word, returns_for, HandsBack}
+use Rattle.laying.specs.Marked.{with_mark, Marked}
 
 -- ---- one array
 
@@ -120,5 +121,5 @@ module _ {r u : Returns} (q g k v : ℕ) (is : k ≡ 64 * q + g) (few : q < 4) (
       let e : k % 64 ≡ g = omega arith in
       rw (same-quarter k (omega arith) (omega arith), e) (with-here (quarter r q) g v long low small)
 
-  pub marked : Whole u → Marked k v r u
-  marked w = record { whole = w; source = mark-source; keeps = λ f x h i. mark-keeps f x h; here = mark-here }
+  pub marked : Marked k v r u
+  marked = record { source = mark-source; keeps = λ f x h i. mark-keeps f x h; here = mark-here }

@@ -43,17 +43,13 @@ holds-next test n w s = go (test n) refl
 
 -- ---- the names of each class
 
-pub classes-none : (masks words : List ℕ) → Classes 0 masks words words
-classes-none masks words = record { same = λ i h. refl; names = λ c h. absurd (omega arith) }
+pub classes-none : (masks names : List ℕ) → Classes 0 masks names
+classes-none masks names c h = absurd (omega arith)
 
-pub classes-next : {masks before after : List ℕ} (n w : ℕ) → 8 + n < length after → Classes n masks before after → Holds (of_class masks n) 32 w
-    → Classes (n + 1) masks before (set after (8 + n) w)
-classes-next {masks} {before} {after} n w long s here =
-    record {
-      same = λ i h. get_or-set_other after (8 + n) i w 0 (λ e. omega arith) ∙ s.same i h;
-      names = λ c h. names c h (ℕ_discrete c n);
-    }
+pub classes-next : (masks names : List ℕ) (n w : ℕ) → n < length names → Classes n masks names → Holds (of_class masks n) 32 w
+    → Classes (n + 1) masks (set names n w)
+classes-next masks names n w long s here c h = go (ℕ_discrete c n)
   where
-    names : (c : ℕ) → c < n + 1 → Dec (c ≡ n) → Holds (of_class masks c) 32 (get_or (set after (8 + n) w) (8 + c) 0)
-    names c h (yes e) = rw (e, get_or-set_same after (8 + n) w 0 long) here
-    names c h (no d) = rw (get_or-set_other after (8 + n) (8 + c) w 0 (λ e. d (omega arith))) (s.names c (omega (arith, d)))
+    go : Dec (c ≡ n) → Holds (of_class masks c) 32 (get_or (set names n w) c 0)
+    go (yes e) = rw (e, get_or-set_same names n w 0 long) here
+    go (no d) = rw (get_or-set_other names n c w 0 (λ e. d (omega arith))) (s c (omega (arith, d)))

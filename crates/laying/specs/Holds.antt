@@ -1,5 +1,5 @@
--- What the words of the array `host` hold: the labels whose byte is a given one, and the names of a class. Assumes nothing.
-use Rattle.std.specs.Prelude.{◌≡◌, ◌↔◌, List, Bool, true, cond, ℕ, ◌+◌, ◌<◌, get_or, eqb}
+-- What the words hold that the engine goes by: the labels whose byte is a given one, and the names of a class. Assumes nothing.
+use Rattle.std.specs.Prelude.{◌≡◌, ◌↔◌, List, Bool, true, cond, ℕ, ◌<◌, get_or, eqb}
 use Rattle.words.specs.Words.{bit}
 
 -- the numbers below n that pass the test are in the word, and no others
@@ -17,7 +17,6 @@ mask_in masks n = cond (eqb (get_or masks n 0) 0) 1 (get_or masks n 0)
 abbrev pub of_class : List ℕ → ℕ → ℕ → Bool
 of_class masks c n = eqb (bit (mask_in masks n) c) 1
 
--- the names of the classes below n, from word 8 on; the words before are as they were
-pub record Classes (n : ℕ) (masks before after : List ℕ) : Type 0 where
-  pub same : (i : ℕ) → i < 8 → get_or after i 0 ≡ get_or before i 0
-  pub names : (c : ℕ) → c < n → Holds (of_class masks c) 32 (get_or after (8 + c) 0)
+-- the names of the classes below n
+abbrev pub Classes : ℕ → List ℕ → List ℕ → Type 0
+Classes n masks names = (c : ℕ) → c < n → Holds (of_class masks c) 32 (get_or names c 0)

@@ -1,3 +1,4 @@
--- What the arrays are filled with that the engine goes by.
+-- What the engine goes by, and what it is filled with.
+pub mod Arrays
 pub mod Holds
 pub mod Marked

@@ -1,11 +1,8 @@
 -- The arrays of what functions return, one variable more at a time. Assumes nothing.
-use Rattle.std.specs.Prelude.{◌≡◌, ◌⊎◌, List, ℕ, ◌+◌, ◌*◌, ◌/◌, ◌%◌, ◌^◌, ◌<◌, length, get_or, set}
+use Rattle.std.specs.Prelude.{◌≡◌, ◌⊎◌, List, ℕ, ◌+◌, ◌*◌, ◌/◌, ◌%◌, ◌^◌, ◌<◌, get_or, set}
 use Rattle.words.specs.Words.{union}
-use Rattle.host.specs.Lays.{Returns, HandsBack}
-
--- four words for each of 64 functions
-abbrev pub Whole : Returns → Type 0
-Whole r = (length r.first ≡ 256) × (length r.second ≡ 256) × (length r.third ≡ 256) × (length r.fourth ≡ 256)
+use Rattle.host.specs.declared.handed.Returns.{Returns}
+use Rattle.host.specs.Lays.{HandsBack}
 
 -- variable v, among those of the f-th function of an array
 abbrev pub with_mark : List ℕ → ℕ → ℕ → List ℕ
@@ -13,7 +10,6 @@ with_mark ws f v = set ws (4 * f + v / 64) (union (get_or ws (4 * f + v / 64) 0)
 
 -- function k, or the top level where k is 0, returns variable v too, and nothing else is new
 pub record Marked (k v : ℕ) (r u : Returns) : Type 0 where
-  pub whole : Whole u
   pub source : (f x : ℕ) → f < 256 → x < 256 → HandsBack u f x → HandsBack r f x ⊎ ((f ≡ k) × (x ≡ v))
   pub keeps : (f x : ℕ) → f < 256 → x < 256 → HandsBack r f x → HandsBack u f x
   pub here : HandsBack u k v

@@ -1,3 +1,3 @@
--- What the two tables of the code hold; which bytes are keys.
+-- What the table of kinds holds; which bytes are keys.
 pub mod Table
 pub mod Keys

@@ -1,3 +1,4 @@
--- The table of record kinds, and which bytes are keys.
+-- The table of record kinds, which bytes are keys, and how the code names kinds and classes.
 pub mod Layout
 pub mod Key
+pub mod Kinds

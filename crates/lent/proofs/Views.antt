@@ -1,7 +1,7 @@
 -- Laws of tables in the lent words: what a row is, and what a store changes. Assumes nothing.
 use mathlib.Core.Path.{◌≡◌, refl, sym, ap₂, ◌∙◌, subst}
 use mathlib.Core.Logic.{◌⊎◌, inl, inr}
-use mathlib.Core.Bool.{Bool}
+use mathlib.Core.Bool.{Bool, true, false}
 use mathlib.Core.List.{List, [], ◌∷◌}
 use Prim.Native.Nat.{ℕ, zero, suc, ◌+◌, ◌*◌, ◌^◌, ◌≤◌, ◌<◌}
 use native.Mathlib.Decide.{ℕ_discrete, dec_lt}
@@ -74,6 +74,9 @@ view-stored {k} {v} {t} {u} n o r h s =
 
 -- ---- the width
 
--- what a table of the width asks of the lent words, once the width is known
-pub fits : {wide : Bool} (b : Bool) (o r n : ℕ) → wide ≡ b → place wide o r + words wide ≤ n → place b o r + words b ≤ n
-fits b o r n e h = rw e at h
+-- what a row asks of the lent words, once the width is known
+pub fits_wide : (wide : Bool) (o r n : ℕ) → wide ≡ true → place wide o r + words wide ≤ n → o + 4 * r + 4 ≤ n
+fits_wide wide o r n e h = rw e at h
+
+pub fits_narrow : (wide : Bool) (o r n : ℕ) → wide ≡ false → place wide o r + words wide ≤ n → o + r + 1 ≤ n
+fits_narrow wide o r n e h = let narrow : place false o r + words false ≤ n = rw e at h in omega arith

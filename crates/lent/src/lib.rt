@@ -16,18 +16,16 @@ fn four(t: &[u64], i: usize) -> Set
     requires { i + 4 ≤ length t.now }
     ensures { value true result ≡ number 4 t.now i }
 {
-    let j = i + 1;
-    let k = j + 1;
-    let l = k + 1;
     Set {
         a: t[i],
-        b: t[j],
-        c: t[k],
-        d: t[l],
+        b: t[i + 1],
+        c: t[i + 2],
+        d: t[i + 3],
     }
 }
 
 // The word at place i.
+#[tactic(auto, unfolding(sets::specs::Value::value, rows::specs::Run::number))]
 fn one(t: &[u64], i: usize) -> Set
     requires { i + 1 ≤ length t.now }
     ensures { value false result ≡ number 1 t.now i }
@@ -41,14 +39,16 @@ fn one(t: &[u64], i: usize) -> Set
 }
 
 // Row r of the table at o.
+#[tactic(auto, using(crate::proofs::Views::fits_wide, crate::proofs::Views::fits_narrow))]
 pub fn row(t: &[u64], o: usize, wide: bool, r: usize) -> Set
     requires { place wide o r + words wide ≤ length t.now }
     ensures { value wide result ≡ number (words wide) t.now (place wide o r) }
 {
     if wide {
-        return four(t, o + 4 * r);
+        four(t, o + 4 * r)
+    } else {
+        one(t, o + r)
     }
-    one(t, o + r)
 }
 
 // The set s, into the four words from place i on.
@@ -56,13 +56,10 @@ fn write_four(t: &mut [u64], i: usize, s: Set)
     requires { i + 4 ≤ length t.old }
     ensures { Stored 4 i (value true s) t.old t.new }
 {
-    let j = i + 1;
-    let k = j + 1;
-    let l = k + 1;
     t[i] = s.a;
-    t[j] = s.b;
-    t[k] = s.c;
-    t[l] = s.d;
+    t[i + 1] = s.b;
+    t[i + 2] = s.c;
+    t[i + 3] = s.d;
 }
 
 // The set s, into the word at place i.
@@ -74,6 +71,7 @@ fn write_one(t: &mut [u64], i: usize, s: Set)
 }
 
 // The set s, into row r of the table at o.
+#[tactic(auto, using(crate::proofs::Views::fits_wide, crate::proofs::Views::fits_narrow))]
 pub fn write(t: &mut [u64], o: usize, wide: bool, r: usize, s: Set)
     requires { place wide o r + words wide ≤ length t.old }
     ensures { Stored (words wide) (place wide o r) (value wide s) t.old t.new }

@@ -4,7 +4,7 @@ use mathlib.Core.Logic.{◌⊎◌, inl, inr, ◌↔◌}
 use mathlib.Core.Bool.{Bool, true, false, ◌||◌}
 use mathlib.Core.List.Memᴰ
 use mathlib.Core.List.{List, [], ◌∷◌, Memᴰ}
-use Prim.Native.Nat.{ℕ, zero, suc, ◌+◌, ◌^◌, ◌<◌}
+use Prim.Native.Nat.{ℕ, ◌+◌, ◌^◌, ◌<◌}
 use native.Mathlib.Decide.{ℕ_discrete}
 use native.Mathlib.Omega.{arith}
 use lib.ListN.{get_or, take}
@@ -30,12 +30,6 @@ use Rattle.shared.proofs.Applied.{remembers-on, applies-for, applies-then, appli
 use Rattle.lines.specs.Chain.{chain_by}
 
 -- ---- prototypes
-
-pub parents-other : (k : ℕ) → 0 < k → (k ≡ 1 → ⊥) → (k ≡ 2 → ⊥) → parents_of k ≡ 4 ∷ []
-parents-other zero h a b = absurd (omega arith)
-parents-other (suc zero) h a b = absurd (a refl)
-parents-other (suc (suc zero)) h a b = absurd (b refl)
-parents-other (suc (suc (suc k))) h a b = refl
 
 -- a label of the narrow edition is one of each
 pub low-label : (wide : Bool) {l : ℕ} → l < 64 → l < labels wide

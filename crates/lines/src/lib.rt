@@ -40,13 +40,11 @@ fn parent_of(kind: u8) -> Label
     ensures kind_value { parents_of kind ≡ result.0 ∷ [] }
     ensures bound { result.0 < 64 }
 {
-    if kind == PLAIN {
-        return OBJECT_PROTOTYPE;
+    match kind {
+        PLAIN => OBJECT_PROTOTYPE,
+        FUNCTION => FUNCTION_PROTOTYPE,
+        _ => ARRAY_PROTOTYPE,
     }
-    if kind == FUNCTION {
-        return FUNCTION_PROTOTYPE;
-    }
-    ARRAY_PROTOTYPE
 }
 
 // What is on the chain of l at once: l, and the prototype of its type.
@@ -54,9 +52,8 @@ fn first_on(wide: bool, l: Label, kind: u8) -> Set
     requires { (l.0 < labels wide) × (0 < kind) }
     ensures { (m : ℕ) → (bit (value wide result) m ≡ 1) ↔ ((m ≡ l.0) ⊎ Memᴰ m (parents_of kind)) }
 {
-    let parent = parent_of(kind);
     let own = sets::single(wide, l);
-    let above = sets::single(wide, parent);
+    let above = sets::single(wide, parent_of(kind));
     sets::union(wide, own, above)
 }
 
@@ -87,16 +84,16 @@ fn declared_line(
     wide: bool,
     types: &[u8; 256],
     keeps: &mut [u64; 256],
-    l: usize,
+    l: Label,
 ) -> bool
-    requires { Lent wide o (length t.old) × (l < labels wide) }
-    ensures { (p : Program) → p.sheet.types ≡ take (labels wide) types.now → Applies wide o p (tells wide (when (declared p.sheet l) (chain_rule p.sheet l))) t.old keeps.old t.new keeps.new result }
+    requires { Lent wide o (length t.old) × (l.0 < labels wide) }
+    ensures { (p : Program) → p.sheet.types ≡ take (labels wide) types.now → Applies wide o p (tells wide (when (declared p.sheet l.0) (chain_rule p.sheet l.0))) t.old keeps.old t.new keeps.new result }
 {
-    let kind = types[l];
+    let kind = types[usize::from(l.0)];
     if kind == 0 {
         return false;
     }
-    chain_line(t, o, wide, keeps, Label(l as u8), kind)
+    chain_line(t, o, wide, keeps, l, kind)
 }
 
 // "P(l) holds l for each declared l, with every member's P": the labels ascending.
@@ -110,13 +107,9 @@ pub fn chain_lines(
     requires { Lent wide o (length t.old) }
     ensures { (p : Program) → p.sheet.types ≡ take (labels wide) types.now → Applies wide o p (tells wide (over (declared_labels (labels wide) p.sheet) (chain_rule p.sheet))) t.old keeps.old t.new keeps.new result }
 {
-    let count = rows::labels(wide);
     let mut grew = false;
-    let mut l: usize = 0;
-    while l < count {
-        let more = declared_line(t, o, wide, types, keeps, l);
-        grew = grew | more;
-        l += 1;
+    for l in 0..rows::labels(wide) {
+        grew |= declared_line(t, o, wide, types, keeps, Label(l as u8));
     }
     grew
 }
@@ -137,7 +130,5 @@ pub fn guest_line(t: &mut [u64], o: usize, wide: bool, g: Label) -> bool
     requires { Lent wide o (length t.old) × (g.0 < labels wide) }
     ensures { Used wide o (tells wide (over (1 ∷ 2 ∷ 4 ∷ []) (λ m. give (chain g.0) m))) t.old t.old t.new result }
 {
-    let row = g.chain(wide);
-    let all = prototypes(wide);
-    lent::join(t, o, wide, row, all)
+    lent::join(t, o, wide, g.chain(wide), prototypes(wide))
 }

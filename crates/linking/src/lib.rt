@@ -1,7 +1,9 @@
-// What the search learns: what a record reads and what it may write, and links from a record that grew something to those that did so after it. Nothing
-// is promised: a link that is wrong or missing costs time.
+// What the search learns: what a record reads and what it may write (`ends`), which records grew something last (`recent`), and links from a record that grew
+// something to those that did so after it (`links`, `past`). Nothing is promised: a link that is wrong or missing costs time.
 
 #![tactic(auto)]
 
 pub mod ends;
-pub mod links;
+mod links;
+pub mod past;
+mod recent;

@@ -20,8 +20,9 @@ use Rattle.program.specs.Program.{Program, is_function, this_of, formals_of, nam
 use Rattle.analysis.specs.Rules.{passing, entering, calling, making}
 use Rattle.uses.specs.Use.{Apart, table_of, tells, giving, including, Used}
 use Rattle.kept.specs.Promise.{chains, throws, handed, under, input, Takes, Tells, Tellings}
+use Rattle.host.specs.declared.Host.{Host}
 use Rattle.host.specs.Lays.{functions_in, Lays, Functions}
-use Rattle.records.specs.declared.Inputs.{Inputs}
+use Rattle.rows.specs.declared.Var.{Var}
 use Rattle.records.specs.Say.{arguments, input_at}
 use Rattle.shared.specs.Apply.{Applies, gathering, spreading}
 use Rattle.shared.proofs.Applied.{applies-plain, applies-for, applies-then, applies-nothing}
@@ -30,14 +31,14 @@ use Rattle.lookups.proofs.Through.{applies-through, told-when, when-told}
 
 -- ---- the functions among labels
 
-pub functions-are : {wide : Bool} {p : Program} {host : List ℕ} {fs : ℕ} (s : ℕ) → Lays wide p host → fs ≡ bit_and s (functions_in wide host) → Functions p fs
+pub functions-are : {wide : Bool} {p : Program} {host : Host} {fs : ℕ} (s : ℕ) → Lays wide p host → fs ≡ bit_and s (functions_in wide host) → Functions p fs
 functions-are {wide} {p} {host} s lays e f h = (lays.functions f).0 (on-meet s (functions_in wide host) f (rw e at h)).1
 
-pub among : {wide : Bool} {p : Program} {host : List ℕ} {fs : ℕ} (s : ℕ) → Lays wide p host → fs ≡ bit_and s (functions_in wide host) → (f : ℕ) → On s f → is_function p.sheet f ≡ true
+pub among : {wide : Bool} {p : Program} {host : Host} {fs : ℕ} (s : ℕ) → Lays wide p host → fs ≡ bit_and s (functions_in wide host) → (f : ℕ) → On s f → is_function p.sheet f ≡ true
     → On fs f
 among {wide} {host = host} s lays e f h is = rw e (meet-on s (functions_in wide host) f h ((lays.functions f).1 is))
 
-pub held_of : {fs : ℕ} (wide : Bool) (host : List ℕ) (s : ℕ) → fs ≡ bit_and s (functions_in wide host) → (f : ℕ) → On fs f → On s f
+pub held_of : {fs : ℕ} (wide : Bool) (host : Host) (s : ℕ) → fs ≡ bit_and s (functions_in wide host) → (f : ℕ) → On fs f → On s f
 held_of wide host s e f h = (on-meet s (functions_in wide host) f (rw e at h)).0
 
 -- ---- inputs
@@ -81,7 +82,7 @@ formal-at formals f j h =
     let e : 7 * f + 1 + j ≡ 7 * f + suc j = omega arith in
     get_or-take 6 (drop (7 * f + 1) formals) j 0 h ∙ get_or-drop (7 * f + 1) formals j 0 ∙ ap (λ (i : ℕ). get_or formals i 0) e
 
-argument-at : (i : Inputs) (j : ℕ) → j < 6 → get_or (arguments i) j 0 ≡ input_at i (suc j)
+argument-at : (i : List Var) (j : ℕ) → j < 6 → get_or (arguments i) j 0 ≡ input_at i (suc j)
 argument-at i zero h = refl
 argument-at i (suc zero) h = refl
 argument-at i (suc (suc zero)) h = refl
@@ -116,15 +117,15 @@ module _ (L : ℕ) (p : Program) (t : Table) (r l : ℕ) where
 -- ---- a function entered
 
 -- the parts of what entering the functions fs tells
-abbrev Enters : Bool → Program → ℕ → ℕ → ℕ → Inputs → Table → ℕ → ℕ → Type 0
+abbrev Enters : Bool → Program → ℕ → ℕ → ℕ → List Var → Table → ℕ → ℕ → Type 0
 Enters wide p k y fs inputs t r l =
     handing_all wide p fs (input_at inputs) 7 t r l
     ⊎ (gathering wide p y handed fs t r l ⊎ gathering wide p (number (labels wide) (thrown k)) throws fs t r l)
 
-module _ (wide : Bool) (p : Program) (k y fs : ℕ) (inputs : Inputs) (t : Table) (r l : ℕ) where
+module _ (wide : Bool) (p : Program) (k y fs : ℕ) (inputs : List Var) (t : Table) (r l : ℕ) where
   -- what is entered is told of a function
   abbrev Told-of : ℕ → Type 0
-  Told-of f = Told (labels wide) t (entering p k y inputs.this.0 (arguments inputs) f) r l
+  Told-of f = Told (labels wide) t (entering p k y (input_at inputs 0) (arguments inputs) f) r l
 
   input-told : (f j : ℕ) → j < 7 → Takes wide p (input j) f r → 0 < r → Has t (input_at inputs j) l → Told-of f
   input-told f zero i e z h =
@@ -152,15 +153,15 @@ module _ (wide : Bool) (p : Program) (k y fs : ℕ) (inputs : Inputs) (t : Table
 
 -- ---- calls
 
-module _ {wide : Bool} {o : ℕ} {p : Program} {host : List ℕ} (k y c : ℕ) (inputs : Inputs) where
+module _ {wide : Bool} {o : ℕ} {p : Program} {host : Host} (k y c : ℕ) (inputs : List Var) where
   -- no function is held
   pub calls-nothing : {held fs : ℕ} {t keeps : List ℕ} → Lays wide p host → held ≡ get_or (table_of wide t) c 0 → fs ≡ bit_and held (functions_in wide host) → fs ≡ 0
-      → Applies wide o p (tells wide (calling p k y c inputs.this.0 (arguments inputs))) t keeps t keeps false
+      → Applies wide o p (tells wide (calling p k y c (input_at inputs 0) (arguments inputs))) t keeps t keeps false
   calls-nothing {held} {fs} {t} lays is_held is-fs z = applies-nothing none
     where
-      none : (a : Table) → Within a (table_of wide t) → (r l : ℕ) → Told (labels wide) a (calling p k y c inputs.this.0 (arguments inputs)) r l → ⊥
+      none : (a : Table) → Within a (table_of wide t) → (r l : ℕ) → Told (labels wide) a (calling p k y c (input_at inputs 0) (arguments inputs)) r l → ⊥
       none a i r l h =
-          let w = when-told (labels wide) a (entering p k y inputs.this.0 (arguments inputs) h.0) (is_function p.sheet h.0) r l h.2 in
+          let w = when-told (labels wide) a (entering p k y (input_at inputs 0) (arguments inputs) h.0) (is_function p.sheet h.0) r l h.2 in
           let f : On fs h.0 = among held lays is-fs h.0 (rw is_held (i c h.0 h.1)) w.0 in
           empty-off h.0 (rw z at f)
 
@@ -168,23 +169,23 @@ module _ {wide : Bool} {o : ℕ} {p : Program} {host : List ℕ} (k y c : ℕ) (
       → fs ≡ bit_and held (functions_in wide host) → Applies wide o p (handing_all wide p fs (input_at inputs) 7) t keeps u kept a
       → Applies wide o p (gathering wide p y handed fs) u kept v left b
       → Applies wide o p (gathering wide p (number (labels wide) (thrown k)) throws fs) v left w last d
-      → Applies wide o p (tells wide (calling p k y c inputs.this.0 (arguments inputs))) t keeps w last (a || (b || d))
+      → Applies wide o p (tells wide (calling p k y c (input_at inputs 0) (arguments inputs))) t keeps w last (a || (b || d))
   call-applies {held} {fs} {t} apart lays is_held is-fs one two three =
       applies-for apart forth back (applies-then apart one (applies-then apart two three))
     where
       forth : (a : Table) → Within (table_of wide t) a → (r l : ℕ) → Enters wide p k y fs inputs a r l
-          → Told (labels wide) a (calling p k y c inputs.this.0 (arguments inputs)) r l
+          → Told (labels wide) a (calling p k y c (input_at inputs 0) (arguments inputs)) r l
       forth a i r l h =
           let g = entered wide p k y fs inputs a r l h in (
             g.0,
             i c g.0 (rw is_held at (held_of wide host held is-fs g.0 g.1)),
-            told-when (labels wide) a (entering p k y inputs.this.0 (arguments inputs) g.0) (is_function p.sheet g.0) r l (functions-are held lays is-fs g.0 g.1) g.2,
+            told-when (labels wide) a (entering p k y (input_at inputs 0) (arguments inputs) g.0) (is_function p.sheet g.0) r l (functions-are held lays is-fs g.0 g.1) g.2,
           )
 
-      back : (a : Table) → Within a (table_of wide t) → (r l : ℕ) → Told (labels wide) a (calling p k y c inputs.this.0 (arguments inputs)) r l
+      back : (a : Table) → Within a (table_of wide t) → (r l : ℕ) → Told (labels wide) a (calling p k y c (input_at inputs 0) (arguments inputs)) r l
           → Enters wide p k y fs inputs a r l
       back a i r l h =
-          let w = when-told (labels wide) a (entering p k y inputs.this.0 (arguments inputs) h.0) (is_function p.sheet h.0) r l h.2 in
+          let w = when-told (labels wide) a (entering p k y (input_at inputs 0) (arguments inputs) h.0) (is_function p.sheet h.0) r l h.2 in
           enters wide p k y fs inputs a r l h.0 (among held lays is-fs h.0 (rw is_held (i c h.0 h.1)) w.0) w.1
 
 -- ---- new

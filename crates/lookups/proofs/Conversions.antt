@@ -20,6 +20,7 @@ use Rattle.analysis.specs.Rules.{converting}
 use Rattle.uses.specs.Use.{Apart, table_of, Since, tells}
 use Rattle.uses.proofs.Use.{used-for, used-nothing}
 use Rattle.kept.specs.Promise.{chains, throws, under, input, Tells, Answer, Remembers, Tellings}
+use Rattle.host.specs.declared.Host.{Host}
 use Rattle.host.specs.Lays.{functions_in, Lays}
 use Rattle.shared.specs.Apply.{Applies, gathering, spreading}
 use Rattle.shared.proofs.Applied.{applies-then}
@@ -36,7 +37,7 @@ Finding wide x a f =
     (l : ℕ) × Has a x l × ((m : ℕ) × Has a (number (labels wide) (chain l)) m
     × ((n : ℕ) × Memᴰ n (1 ∷ 2 ∷ []) × Has a (number (labels wide) (property m n)) f))
 
-module _ {wide : Bool} {o : ℕ} {p : Program} {host : List ℕ} (k x : ℕ) where
+module _ {wide : Bool} {o : ℕ} {p : Program} {host : Host} (k x : ℕ) where
   module _ {held on strings values fs : ℕ} {t keeps kept left last : List ℕ} (apart : Apart wide o) (lays : Lays wide p host)
       (is_held : held ≡ get_or (table_of wide t) x 0) (chained : Tellings wide p chains t held 0 on keeps kept)
       (first : Tellings wide p (under 1) t on 0 strings kept left) (second : Tellings wide p (under 2) t on 0 values left last)

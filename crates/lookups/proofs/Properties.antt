@@ -22,6 +22,7 @@ use Rattle.lent.specs.Stored.{Joined}
 use Rattle.uses.specs.Gather.{row_from, under_names, Gathered}
 use Rattle.uses.specs.Use.{Apart, table_of, tells, giving, Reached, start, adds, Used}
 use Rattle.kept.specs.Promise.{chains, under, stored, Tells, Tellings}
+use Rattle.host.specs.declared.Host.{Host}
 use Rattle.host.specs.Lays.{built_ins_in, names_in, Lays}
 use Rattle.shared.specs.Apply.{Applies, gathering, spreading}
 use Rattle.shared.proofs.Applied.{applies-plain, applies-for, applies-then}
@@ -62,7 +63,7 @@ module _ {wide : Bool} {o : ℕ} {p : Program} (y x w key : ℕ) where
       back a i all r l (inr h) = of-looked a all r l h.0 (rw is-s (on-left held one h.0 (rw is_held (i x h.0 h.1)))) h.2
 
 -- a part of a load, in place: one join of what some of the labels that the object holds find
-module _ {wide : Bool} {p : Program} {host : List ℕ} (y x w key : ℕ) where
+module _ {wide : Bool} {p : Program} {host : Host} (y x w key : ℕ) where
   pub part-reached : {s held base on names more : ℕ} {t u : List ℕ} {grew : Bool} (part : ℕ) → Lays wide p host → Key key → y < row_count (labels wide)
       → held ≡ get_or (table_of wide t) x 0 → s ≡ bit_and held part → base ≡ number (labels wide) (chain 0)
       → Gathered (row_from base) (table_of wide t) (table_of wide t) s on → names ≡ names_in host key
@@ -82,12 +83,15 @@ module _ {wide : Bool} {p : Program} {host : List ℕ} (y x w key : ℕ) where
 
 -- ---- stores
 
-module _ {wide : Bool} {o : ℕ} {p : Program} {host : List ℕ} (x a key : ℕ) where
-  pub store-applies : {s held fixed value : ℕ} {t u keeps kept : List ℕ} {grew : Bool} → Apart wide o → Lays wide p host → held ≡ get_or (table_of wide t) x 0
-      → fixed ≡ built_ins_in wide host → s ≡ difference held fixed → value ≡ get_or (table_of wide t) a 0
+module _ {wide : Bool} {o : ℕ} {p : Program} {host : Host} (x a key : ℕ) where
+  pub store-applies : {s held value : ℕ} {t u keeps kept : List ℕ} {grew : Bool} → Apart wide o → Lays wide p host → held ≡ get_or (table_of wide t) x 0
+      → s ≡ difference held (built_ins_in wide host) → value ≡ get_or (table_of wide t) a 0
       → Applies wide o p (spreading wide p (stored key) s value) t keeps u kept grew → Applies wide o p (tells wide (storing p x key a)) t keeps u kept grew
-  store-applies {s} {held} {fixed} {value} {t} apart lays is_held is-fixed is-s is-value spread = applies-for apart forth back spread
+  store-applies {s} {held} {value} {t} apart lays is_held is-s is-value spread = applies-for apart forth back spread
     where
+      fixed : ℕ
+      fixed = built_ins_in wide host
+
       body : ℕ → Rule
       body l = over (names_of p.sheet key) (λ n. include (property l n) (variable a))
 
@@ -98,7 +102,7 @@ module _ {wide : Bool} {o : ℕ} {p : Program} {host : List ℕ} (x a key : ℕ)
             m,
             i x m (rw is_held at (on-difference held fixed m e)),
             told-when (labels wide) b (body m) (not (built_in p.sheet m)) r l
-                (untrue (built_in p.sheet m) (λ g. difference-off held fixed m e (rw is-fixed ((lays.built-ins m).1 g))))
+                (untrue (built_in p.sheet m) (λ g. difference-off held fixed m e ((lays.built-ins m).1 g)))
                 (h.2.0.0, h.2.0.1, (positive h.2.0.2 h.2.1, h.2.0.2, i a l (rw is-value at h.2.2))),
           )
         where
@@ -116,4 +120,4 @@ module _ {wide : Bool} {o : ℕ} {p : Program} {host : List ℕ} (x a key : ℕ)
 
           kept : On (difference held fixed) h.0 ⊎ On fixed h.0 → not (built_in p.sheet h.0) ≡ true → On (difference held fixed) h.0
           kept (inl e) f = e
-          kept (inr e) f = absurd (not-both (built_in p.sheet h.0) f ((lays.built-ins h.0).0 (rw is-fixed at e)))
+          kept (inr e) f = absurd (not-both (built_in p.sheet h.0) f ((lays.built-ins h.0).0 e))

@@ -7,7 +7,7 @@ use Rattle.rules.specs.Rule.{Rule, give, include, each, ◌also◌}
 use Rattle.program.specs.Program.{Program}
 use Rattle.analysis.specs.Rules.{calling, making}
 use Rattle.records.specs.declared.Site.{Site}
-use Rattle.records.specs.Say.{arguments}
+use Rattle.records.specs.Say.{input_at, arguments}
 use Rattle.kept.specs.Promise.{input, Takes}
 
 -- what variable v holds, to the j-th input of the functions fs
@@ -20,7 +20,7 @@ handing_all wide p fs inputs n t r l = (j : ℕ) × (j < n) × handing wide p fs
 
 -- the rules of a call and of new
 abbrev pub call_by : Program → Site → Rule
-call_by p s = calling p s.scope.0 s.result.0 s.callee.0 s.inputs.this.0 (arguments s.inputs)
+call_by p s = calling p s.scope.0 s.result.0 s.callee.0 (input_at s.inputs 0) (arguments s.inputs)
 
 -- new without its call
 abbrev pub object_rule : ℕ → ℕ → ℕ → ℕ → Rule
@@ -30,4 +30,4 @@ object_rule y c x l =
     also each (variable c) (λ f. each (chain f) (λ m. include (chain l) (property m 3)))
 
 abbrev pub new_by : Program → Site → ℕ → Rule
-new_by p s l = making p s.scope.0 s.result.0 s.callee.0 s.inputs.this.0 l (arguments s.inputs)
+new_by p s l = making p s.scope.0 s.result.0 s.callee.0 (input_at s.inputs 0) l (arguments s.inputs)

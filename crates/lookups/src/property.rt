@@ -8,6 +8,7 @@ ghost use Rattle.uses.specs.Use.{Lent, tells, Reached};
 ghost use Rattle.host.specs.Lays.{Lays};
 ghost use Rattle.shared.specs.Apply.{Applies};
 
+use host::Host;
 use rows::{Label, Var};
 use sets::Set;
 use shared::spread::spread_stored;
@@ -18,7 +19,7 @@ pub fn load(
     t: &mut [u64],
     o: usize,
     wide: bool,
-    host: &[u64; host::WORDS],
+    host: &Host,
     keeps: &mut [u64; 256],
     y: Var,
     x: Var,
@@ -41,7 +42,7 @@ pub fn store(
     t: &mut [u64],
     o: usize,
     wide: bool,
-    host: &[u64; host::WORDS],
+    host: &Host,
     keeps: &mut [u64; 256],
     x: Var,
     key: u8,
@@ -51,7 +52,7 @@ pub fn store(
     ensures { (p : Program) → Lays wide p host.now → Applies wide o p (tells wide (storing p x.0 key a.0)) t.old keeps.old t.new keeps.new result }
 {
     let held = uses::held(t, wide, x);
-    let s = sets::without(wide, held, host::built_ins(host, wide));
+    let s = host.without_built_ins(wide, held);
     let value = uses::held(t, wide, a);
     spread_stored(t, o, wide, host, keeps, key, s, value)
 }
@@ -60,7 +61,7 @@ pub fn store(
 pub fn load_part(
     t: &mut [u64],
     wide: bool,
-    host: &[u64; host::WORDS],
+    host: &Host,
     y: Var,
     x: Var,
     key: u8,
@@ -73,7 +74,7 @@ pub fn load_part(
     let held = uses::held(t, wide, x);
     let s = sets::meet(wide, held, labels);
     let on = uses::gather(t, wide, Label(0).chain(wide), s);
-    let names = host::names(host, key);
+    let names = host.names(key);
     let more = uses::gather_under(t, wide, names, on);
     lent::join(t, 0, wide, y.row(), more)
 }

@@ -30,29 +30,10 @@ use Rattle.lent.specs.Table.{table_at}
 use Rattle.whole.proofs.Rows.{same-room, rows_left, rest-left, some_words, short-rows, full-rows, bag-row}
 use Rattle.cleaning.proofs.Copies.{cleaned-rows}
 use Rattle.records.proofs.Walks.{five-labels}
-use Rattle.sheet.specs.View.{sheet_of}
-use Rattle.sheet.specs.declared.Sheet as declared
-use Rattle.passes.specs.Arrays.{Arrays}
 use Rattle.solver.specs.Solved.{Solved}
 use Rattle.operations.specs.Judgment.{judgment}
 
--- ---- the arrays of the sheet that was read
-
-pub arrays-read : (wide : Bool) (file : List ℕ) (s : declared.Sheet) → sheet_of wide s ≡ (read_file (labels wide) file).sheet
-    → Arrays wide file s.types s.flags s.masks s.formals s.profile
-arrays-read wide file s e =
-    record {
-      types_are = ap (λ (s : Sheet). s.types) (sym e);
-      flags-are = ap (λ (s : Sheet). s.flags) (sym e);
-      masks-are = ap (λ (s : Sheet). s.masks) (sym e);
-      formals-are = ap (λ (s : Sheet). s.formals) (sym e);
-      profile-is = ap (λ (s : Sheet). s.profile) (sym e);
-    }
-
 -- ---- a set that is held
-
-pub some-held : {b : Bool} {n : ℕ} → b ≡ eqb n 0 → b ≡ false → 0 < n
-some-held {b} {n} e f = let z = eqb-false n 0 (sym e ∙ f) in omega (arith, z)
 
 pub not_none : {b : Bool} {n w : ℕ} → b ≡ eqb n 0 → b ≡ false → n ≡ w → w ≡ 0 → ⊥
 not_none {b} {n} e f same z = eqb-false n 0 (sym e ∙ f) (same ∙ z)

@@ -3,7 +3,7 @@
 // crate of their own (pezvoran, pezvoran_large), so that the compiler makes code for its width alone.
 #![tactic(auto)]
 
-ghost use Rattle.std.specs.Prelude.{◌≡◌, ◌*◌, ◌<◌, ◌≤◌, length};
+ghost use Rattle.std.specs.Prelude.{◌≡◌, ◌*◌, ◌^◌, ◌<◌, ◌≤◌};
 ghost use Rattle.std.specs.Int.Count.{count_trailing_zeros};
 ghost use Rattle.rows.specs.Edition.{labels, words, word_count};
 ghost use Rattle.rows.specs.Run.{room_for, rows_of};
@@ -13,7 +13,8 @@ ghost use Rattle.verdicts.specs.Check.{check_outcome};
 ghost use Rattle.sets.specs.Value.{value};
 ghost use Rattle.operations.specs.Judgment.{judgment};
 
-use answer::Answer;
+use answer::{Answer, Refusal};
+use rows::{LARGE_TABLE_WORDS, TABLE_WORDS};
 use sets::Set;
 
 // The label of the guest: an answer names it beside a label that the guest holds.
@@ -24,8 +25,7 @@ fn lowest_label(wide: bool, s: Set) -> u8
     requires { 0 < value wide s }
     ensures { result ≡ count_trailing_zeros (labels wide) (value wide s) }
 {
-    let l = sets::lowest(wide, s);
-    l.0
+    sets::lowest(wide, s).0
 }
 
 // What the forbidden labels in the guest's bag and the number of facts amount to.
@@ -33,9 +33,10 @@ fn judged(wide: bool, held: Set, count: u32) -> Answer
     ensures { outcome_of result ≡ judgment (labels wide) (value wide held) count }
 {
     if sets::is_empty(wide, held) {
-        return Answer::Confined(count);
+        Answer::Confined(count)
+    } else {
+        Answer::Leaks(lowest_label(wide, held), GUEST, count)
     }
-    Answer::Leaks(lowest_label(wide, held), GUEST, count)
 }
 
 // The verdict on a file in either edition; the least table is left in the lent words.
@@ -43,61 +44,46 @@ pub fn judge(file: &[u8], wide: bool, table: &mut [u64]) -> Answer
     ensures result_value { outcome_of result ≡ verdict_outcome (labels wide) (room_for (words wide) table.old) file.now }
     ensures table_after { table.new ≡ verdict_words (words wide) (labels wide) file.now table.old }
 {
-    let full = rows::word_count(wide);
-    if table.len() < full {
-        return Answer::Refused(8, 0);
+    if table.len() < rows::word_count(wide) {
+        return Answer::Refused(Refusal::TableTooShort, 0);
     }
-    let r = reader::read(file, wide);
-    let no = r.refusal;
-    let at = r.position;
-    if no != 0 {
-        return Answer::Refused(no, at);
+    match &reader::read(file, wide) {
+        Ok(sheet) => {
+            solver::solve(table, file, wide, sheet);
+            let held = whole::held(table, wide, sheet.forbidden);
+            judged(wide, held, whole::count(table, wide))
+        }
+        Err(no) => Answer::Refused(no.refusal, no.position),
     }
-    solver::solve(
-        table,
-        file,
-        wide,
-        &r.sheet.types,
-        &r.sheet.flags,
-        &r.sheet.masks,
-        &r.sheet.formals,
-        r.sheet.profile,
-    );
-    let held = whole::held(table, wide, r.sheet.forbidden);
-    judged(wide, held, whole::count(table, wide))
 }
 
-// The check of a finished table in either edition; `room` is for two tables, and what stood there counts for nothing.
-pub fn examine(file: &[u8], wide: bool, table: &[u64], room: &mut [u64]) -> Answer
-    requires { 2 * word_count wide ≤ length room.old }
+// The words of two tables, the room of a check, in the edition of 64 labels and in that of 256.
+pub const ROOM_WORDS: usize = 2 * TABLE_WORDS;
+
+pub const LARGE_ROOM_WORDS: usize = 2 * LARGE_TABLE_WORDS;
+
+// The check of a finished table in either edition, with ROOM words of its own for two tables.
+pub fn examine<const ROOM: usize>(file: &[u8], wide: bool, table: &[u64]) -> Answer
+    requires enough { 2 * word_count wide ≤ ROOM }
+    requires size { ROOM < 2 ^ 60 }
     ensures { outcome_of result ≡ check_outcome (labels wide) file.now (rows_of (words wide) table.now) }
 {
     if table.len() < rows::word_count(wide) {
-        return Answer::Refused(8, 0);
+        return Answer::Refused(Refusal::TableTooShort, 0);
     }
-    let r = reader::read(file, wide);
-    let no = r.refusal;
-    let at = r.position;
-    if no != 0 {
-        return Answer::Refused(no, at);
+    match &reader::read(file, wide) {
+        Ok(sheet) => {
+            let mut room = [0u64; ROOM];
+            if let Some(gap) = checker::lowest_gap(&mut room, table, file, wide, sheet) {
+                return Answer::Refused(Refusal::TableNotClosed, gap);
+            }
+            let held = whole::held(table, wide, sheet.forbidden);
+            if sets::is_empty(wide, held) {
+                Answer::Accepted(0)
+            } else {
+                Answer::Holds(lowest_label(wide, held), GUEST)
+            }
+        }
+        Err(no) => Answer::Refused(no.refusal, no.position),
     }
-    let gap = checker::lowest_gap(
-        room,
-        table,
-        file,
-        wide,
-        &r.sheet.types,
-        &r.sheet.flags,
-        &r.sheet.masks,
-        &r.sheet.formals,
-        r.sheet.profile,
-    );
-    if gap < rows::row_count(wide) {
-        return Answer::Refused(10, gap);
-    }
-    let held = whole::held(table, wide, r.sheet.forbidden);
-    if sets::is_empty(wide, held) {
-        return Answer::Accepted(0);
-    }
-    Answer::Holds(lowest_label(wide, held), GUEST)
 }

@@ -3,9 +3,9 @@ use mathlib.Core.Path.{◌≡◌, refl, sym, ap, subst}
 use mathlib.Core.Logic.{◌↔◌}
 use mathlib.Core.Bool.{Bool, true, false, ◌||◌, true≢false}
 use mathlib.Core.List.{List, [], ◌∷◌, ◌++◌, map, Memᴰ}
-use Prim.Native.Nat.{ℕ, zero, suc, ◌+◌, ◌%◌, ◌<◌}
+use Prim.Native.Nat.{ℕ, zero, suc, ◌+◌, ◌<◌}
 use native.Mathlib.Omega.{arith}
-use lib.ListN.{get_or, take}
+use lib.ListN.{take}
 use lib.Dec.{eqb}
 use borrow.Author.Tests.{eq-eqb, ne_eqb}
 use Rattle.words.specs.Words.{bit}
@@ -19,6 +19,7 @@ use Rattle.program.specs.Program.{Program, guest_statements, guests_statements, 
 use Rattle.program.proofs.Held.{class-below, class-names}
 use Rattle.analysis.specs.Rules.{rule_of}
 use Rattle.uses.specs.Use.{Apart, tells}
+use Rattle.host.specs.declared.Host.{Host}
 use Rattle.host.specs.Lays.{names_in, guest_key_in, Lays}
 use Rattle.shared.specs.Apply.{Applies}
 use Rattle.passes.proofs.Every.{applies-append, applies-same}
@@ -47,11 +48,11 @@ pub guest-all : (p : Program) (key : ℕ) (prototyped : Bool) → key ≡ (guest
 unfolding guests_statements guest_statements
 guest-all p key prototyped e f = rw (e, f)
 
--- the array's word for the key, and its bit for name 3, are the guest's
-pub guest-keyed : {wide : Bool} {host : List ℕ} (p : Program) → Lays wide p host → guest_key_in host ≡ (guest_three p.sheet).key
+-- the host's key, and its bit for name 3, are the guest's
+pub guest-keyed : {wide : Bool} {host : Host} (p : Program) → Lays wide p host → guest_key_in host ≡ (guest_three p.sheet).key
 guest-keyed p lays = lays.guest-key
 
-pub guest-prototyped : {wide : Bool} {host : List ℕ} (p : Program) → Lays wide p host
+pub guest-prototyped : {wide : Bool} {host : Host} (p : Program) → Lays wide p host
     → eqb (bit (names_in host (guest_key_in host)) 3) 1 ≡ (guest_three p.sheet).prototyped
 guest-prototyped {host = host} p lays =
     let c = guest_class p.sheet in
@@ -61,7 +62,7 @@ guest-prototyped {host = host} p lays =
     (λ e. named.1 (rw (lays.guest-key, class-names p.sheet c h) (passes-chosen (in_class p.sheet c) 32 3 (omega arith) e)))
   where
     named : (bit (names_in host (guest_key_in host)) 3 ≡ 1) ↔ Memᴰ 3 (names_of p.sheet (guest_key_in host))
-    named = lays.names (guest_key_in host) 3 (class-key (get_or host 16 0 % 8) (omega arith))
+    named = lays.names (guest_key_in host) 3 (class-key host.guest_class host.in_range)
 
     same : (n : ℕ) (b : Bool) → (n ≡ 1 → b ≡ true) → (b ≡ true → n ≡ 1) → eqb n 1 ≡ b
     same n true f g = eq-eqb n 1 (g refl)

@@ -2,4 +2,3 @@ pub mod Every
 pub mod Walked
 pub mod Guests
 pub mod Whole
-pub mod Arrays

@@ -1,3 +1,2 @@
 -- One pass over the rules of a file.
 pub mod Order
-pub mod Arrays

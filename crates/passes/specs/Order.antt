@@ -1,5 +1,5 @@
 -- The rules of a file in the order of a pass: the P line, the guest's, the records'. Assumes nothing.
-use Rattle.std.specs.Prelude.{◌≡◌, Bool, List, [], ◌∷◌, map, ℕ, zero, suc, take, replicate}
+use Rattle.std.specs.Prelude.{Bool, List, [], ◌∷◌, map, ℕ, zero, suc, replicate}
 use Rattle.rows.specs.Edition.{labels}
 use Rattle.rows.specs.Row.{chain}
 use Rattle.rules.specs.Rule.{Rule, give, over, every, ◌also◌}
@@ -10,7 +10,6 @@ use Rattle.analysis.specs.Rules.{rule_of, chain_rule, declared_labels, rules}
 use Rattle.rows.specs.declared.Var.{Var}
 use Rattle.records.specs.declared.Site.{Site}
 use Rattle.uses.specs.Use.{tells}
-use Rattle.host.specs.Lays.{Returns, Lays, FormalsOf, ReturnsOf}
 use Rattle.shared.specs.Apply.{Applies}
 
 -- guest 3 with this key, whatever is forbidden to it
@@ -36,7 +35,7 @@ the_site =
       scope = record { 0 = 3 };
       result = v;
       callee = v;
-      inputs = record { this = v; first = v; second = v; third = v; fourth = v; fifth = v; sixth = v };
+      inputs = replicate 7 v;
     }
 
 -- the rules of its statements
@@ -51,13 +50,6 @@ record_rules L p file = every (map (λ s. rule_of p s.1) (host_statements (read_
 abbrev pub line_rules : ℕ → Program → Rule
 line_rules L p =
     over (declared_labels L p.sheet) (chain_rule p.sheet) also over (1 ∷ 2 ∷ 4 ∷ []) (λ m. give (chain 3) m) also guest_rules p
-
--- the arrays that the engine goes by are those of program p
-pub record Known (wide : Bool) (p : Program) (host types formals : List ℕ) (r : Returns) : Type 0 where
-  pub lays : Lays wide p host
-  pub typed : p.sheet.types ≡ take (labels wide) types
-  pub formals-of : FormalsOf p formals
-  pub returning : ReturnsOf p r
 
 -- one use of all rules of the file
 abbrev pub PassOf : Bool → ℕ → List ℕ → List ℕ → List ℕ → List ℕ → List ℕ → Bool → Type 0

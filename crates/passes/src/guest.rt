@@ -8,15 +8,16 @@ ghost use Rattle.program.specs.Program.{Program};
 ghost use Rattle.analysis.specs.Rules.{rule_of};
 ghost use Rattle.uses.specs.Use.{Lent, tells};
 ghost use Rattle.records.specs.Say.{rule_by, InBounds};
-ghost use Rattle.host.specs.Lays.{names_in, Lays, FormalsOf, ReturnsOf, arrays};
+ghost use Rattle.host.specs.Lays.{names_in, Serves};
 ghost use Rattle.shared.specs.Apply.{Applies};
 ghost use Rattle.passes.specs.Order.{guest_statement, the_site, guest_rules};
 
-use records::{Inputs, Site, Statement};
+use host::Host;
+use records::{Site, Statement};
 use rows::{Label, Var};
 
-// The guest's label and its bag.
-const GUEST: Label = Label(3);
+// The label of the guest and of whatever it makes, and its bag.
+pub const GUEST: Label = Label(3);
 
 const BAG: Var = Var(1);
 
@@ -31,15 +32,7 @@ fn guest_site() -> Site
         scope: GUEST,
         result: BAG,
         callee: BAG,
-        inputs: Inputs {
-            this: BAG,
-            first: BAG,
-            second: BAG,
-            third: BAG,
-            fourth: BAG,
-            fifth: BAG,
-            sixth: BAG,
-        },
+        inputs: [BAG; 7],
     }
 }
 
@@ -49,12 +42,13 @@ fn made(prototyped: bool) -> Statement
     ensures in_bounds { (wide : Bool) → InBounds (labels wide) result }
 {
     if prototyped {
-        return Statement::MakeFunction(BAG, GUEST, GUEST);
+        Statement::MakeFunction(BAG, GUEST, GUEST)
+    } else {
+        Statement::Make(BAG, GUEST)
     }
-    Statement::Make(BAG, GUEST)
 }
 
-// The i-th statement of the guest that has this key.
+// The i-th statement of the guest that has this key. By number, so that one of them is on the stack at a time and not all eight.
 fn statement(key: u8, prototyped: bool, i: usize) -> Statement
     requires { Key key × (i < 8) }
     ensures result_value { (p : Program) → rule_by p result ≡ both (rule_of p (guest_statement key prototyped i)) none }
@@ -73,50 +67,23 @@ fn statement(key: u8, prototyped: bool, i: usize) -> Statement
 }
 
 // Whether name 3 is one of the key's.
-fn is_prototyped(host: &[u64; host::WORDS], key: u8) -> bool
+fn is_prototyped(host: &Host, key: u8) -> bool
     requires { Key key }
     ensures { result ≡ eqb (bit (names_in host.now key) 3) 1 }
 {
-    let names = host::names(host, key);
-    words::has(names, PROTOTYPE) == 1
+    words::contains(host.names(key), PROTOTYPE)
 }
 
 // One use of the guest's rules.
-pub fn guest(
-    t: &mut [u64],
-    o: usize,
-    wide: bool,
-    host: &[u64; host::WORDS],
-    formals: &[u8; 1792],
-    first: &[u64; 256],
-    second: &[u64; 256],
-    third: &[u64; 256],
-    fourth: &[u64; 256],
-    keeps: &mut [u64; 256],
-) -> bool
+pub fn guest(t: &mut [u64], o: usize, wide: bool, host: &Host, keeps: &mut [u64; 256]) -> bool
     requires { Lent wide o (length t.old) }
-    ensures { (p : Program) → Lays wide p host.now → FormalsOf p formals.now → ReturnsOf p (arrays first.now second.now third.now fourth.now) → Applies wide o p (tells wide (guest_rules p)) t.old keeps.old t.new keeps.new result }
+    ensures { (p : Program) → Serves wide p host.now → Applies wide o p (tells wide (guest_rules p)) t.old keeps.old t.new keeps.new result }
 {
-    let key = host::guest_key(host);
+    let key = host.guest_key();
     let prototyped = is_prototyped(host, key);
     let mut grew = false;
-    let mut i: usize = 0;
-    while i < 8 {
-        let more = apply::apply(
-            t,
-            o,
-            wide,
-            host,
-            formals,
-            first,
-            second,
-            third,
-            fourth,
-            keeps,
-            statement(key, prototyped, i),
-        );
-        grew = grew | more;
-        i += 1;
+    for i in 0..8 {
+        grew |= apply::apply(t, o, wide, host, keeps, statement(key, prototyped, i));
     }
     grew
 }

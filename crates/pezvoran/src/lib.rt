@@ -3,12 +3,10 @@
 
 ghost use Rattle.std.specs.Prelude.{◌≡◌, length};
 ghost use Rattle.answer.specs.Outcome.{packed};
-ghost use Rattle.answer.specs.Answer.{outcome_of};
 ghost use Rattle.verdicts.specs.Verdict.{verdict_outcome, verdict_table};
 ghost use Rattle.verdicts.specs.Check.{check_outcome};
 
-use answer::Answer;
-use rows::TABLE_WORDS;
+use operations::ROOM_WORDS;
 
 // The verdict, for C: see `packed` in the crate answer for the word.
 #[unsafe(no_mangle)]
@@ -19,18 +17,10 @@ pub extern "C" fn verdict(file: &[u8], table: &mut [u64]) -> u64
     answer::pack(operations::judge(file, false, table))
 }
 
-// The check of a finished table, which is only read.
-pub fn examine(file: &[u8], table: &[u64]) -> Answer
-    ensures { outcome_of result ≡ check_outcome 64 file.now table.now }
-{
-    let mut room = [0u64; 2 * TABLE_WORDS];
-    operations::examine(file, false, table, &mut room)
-}
-
-// The check, for C.
+// The check of a finished table, which is only read, for C.
 #[unsafe(no_mangle)]
 pub extern "C" fn check(file: &[u8], table: &[u64]) -> u64
     ensures { result ≡ packed (check_outcome 64 file.now table.now) }
 {
-    answer::pack(examine(file, table))
+    answer::pack(operations::examine::<ROOM_WORDS>(file, false, table))
 }

@@ -1,14 +1,22 @@
 -- Laws of reading in the form in which the loop over the records meets them. L is the number of labels. Assumes nothing.
 use mathlib.Core.Path.{◌≡◌, refl, sym, ap, ◌∙◌}
-use mathlib.Core.List.{List, ◌∷◌}
+use mathlib.Core.List.{List, [], ◌∷◌, map}
 use mathlib.Core.Bool.{Bool, true, false, cond}
+use mathlib.Core.Logic.{◌⊎◌, inl, inr}
 use Prim.Native.Nat.{ℕ, suc, ◌+◌, ◌-◌, ◌≤◌, ◌<◌}
 use native.Mathlib.Numerals.{add-one}
 use native.Mathlib.Omega.{arith}
 use lib.ListN.{length, get_or, take, drop, length-drop, drop_of_length-le, take-append-drop}
 use lib.Seq.{drop-cons, drop-drop, length-take-le}
 use borrow.Author.Tests.{le-ltb, lt-ltb, eq-eqb, ne_eqb}
-use Rattle.layout.specs.Layout.{Class, name, fields_of, body_length}
+use Rattle.std.specs.Prelude.{None}
+use Rattle.std.specs.Slice.Iter.{iter_steps, iter_rest}
+use Rattle.std.specs.declared.slice.Iter.{Iter}
+use Rattle.layout.specs.Layout.{Class, fields_of, body_length}
+use Rattle.layout.specs.Kinds.{number_of, class_meant}
+use Rattle.layout.specs.declared.Kind.{Kind}
+use Rattle.layout.specs.declared.Class as declared
+use Rattle.layout.proofs.Table.{fields-length, some-body}
 use Rattle.format.specs.Sheet.{Sheet, start}
 use Rattle.format.specs.Fields.{good, refusal_of, Fits, first_bad}
 use Rattle.format.specs.Records.{Record, WellFormed, after, whole_refusal, body_refusal}
@@ -16,7 +24,8 @@ use Rattle.format.specs.Reading.{Reading, stopped, preceded, record_refusal, rea
 use Rattle.format.proofs.Fields.{refusal-not-zero, none-bad-fits}
 use Rattle.format.proofs.Records.{front}
 use Rattle.format.proofs.Reading.{read-end, read-refused, read-record}
-use Rattle.fields.specs.Judging.{field_refusal}
+use Rattle.fields.specs.Judging.{judging, field_refusal}
+use Rattle.fields.proofs.Judged.{refusal-judging}
 
 -- what the code gives of a reading
 pub record Agrees (d e : Reading) : Type 0 where
@@ -41,28 +50,39 @@ pub next-within : {long at n : ℕ} → at < long → n ≤ long - at - 1 → at
 next-within h l = omega arith
 
 module _ (L : ℕ) where
-  -- ---- the fields of a record, from the j-th on
+  -- ---- the fields of a record, from the next on
 
-  refused-or-good : (s : Sheet) (c : Class) (b : ℕ) (t : Bool) → good L s c b ≡ t → cond t 0 (refusal_of c) ≡ 0 → good L s c b ≡ true
-  refused-or-good s c b true e z = e
-  refused-or-good s c b false e z = absurd (refusal-not-zero c z)
+  module _ (s : Sheet) (c : Class) (cs : List Class) (b : ℕ) (bs : List ℕ) where
+    good-field : (t : Bool) → good L s c b ≡ t → 0 ≡ cond t 0 (refusal_of c) → first_bad L s (c ∷ cs) (b ∷ bs) ≡ first_bad L s cs bs
+    unfolding first_bad
+    good-field true e z = rw e
+    good-field false e z = absurd (refusal-not-zero c (sym z))
 
-  refused-is : (s : Sheet) (c : Class) (b : ℕ) (t : Bool) (r : ℕ) → good L s c b ≡ t → (cond t 0 (refusal_of c) ≡ 0 → ⊥) → cond t r (refusal_of c) ≡ cond t 0 (refusal_of c)
-  refused-is s c b true r e z = absurd (z refl)
-  refused-is s c b false r e z = refl
+    pub next-good : 0 ≡ field_refusal L (judging s.types s.owners) c b → first_bad L s (c ∷ cs) (b ∷ bs) ≡ first_bad L s cs bs
+    unfolding field_refusal
+    next-good z = good-field (good L s c b) refl (z ∙ refusal-judging L s c b)
 
-  module _ (s : Sheet) (cs : List Class) (b : List ℕ) (j : ℕ) (inside : j < length cs) (there : j < length b) where
-    pub fields-on : field_refusal L s (get_or cs j name) (get_or b j 0) ≡ 0 → first_bad L s (drop j cs) (drop j b) ≡ first_bad L s (drop (j + 1) cs) (drop (j + 1) b)
-    unfolding first_bad field_refusal
-    fields-on e = rw (add-one, drop-cons cs j name inside, drop-cons b j 0 there, refused-or-good s (get_or cs j name) (get_or b j 0) _ refl e)
+    refused-field : (t : Bool) (r : ℕ) → good L s c b ≡ t → r ≡ cond t 0 (refusal_of c) → (r ≡ 0 → ⊥) → first_bad L s (c ∷ cs) (b ∷ bs) ≡ r
+    unfolding first_bad
+    refused-field true r e q z = absurd (z q)
+    refused-field false r e q z = rw e (sym q)
 
-    pub fields-bad : (field_refusal L s (get_or cs j name) (get_or b j 0) ≡ 0 → ⊥) → first_bad L s (drop j cs) (drop j b) ≡ field_refusal L s (get_or cs j name) (get_or b j 0)
-    unfolding first_bad field_refusal
-    fields-bad e = rw (drop-cons cs j name inside, drop-cons b j 0 there) (refused-is s (get_or cs j name) (get_or b j 0) _ _ refl e)
+    pub next-bad : (r : ℕ) → r ≡ field_refusal L (judging s.types s.owners) c b → (r ≡ 0 → ⊥) → first_bad L s (c ∷ cs) (b ∷ bs) ≡ r
+    unfolding field_refusal
+    next-bad r q = refused-field (good L s c b) r refl (q ∙ refusal-judging L s c b)
 
-  pub fields-end : (s : Sheet) (cs : List Class) (b : List ℕ) (j : ℕ) → length cs ≤ j → first_bad L s (drop j cs) (drop j b) ≡ 0
+  none-left : (s : Sheet) (cs : List declared.Class) (bs : List ℕ) → (length cs ≡ 0) ⊎ (length bs ≡ 0) → first_bad L s (map class_meant cs) bs ≡ 0
   unfolding first_bad
-  fields-end s cs b j h = rw (drop_of_length-le cs h)
+  none-left s [] bs h = refl
+  none-left s (c ∷ cs) [] h = refl
+  none-left s (c ∷ cs) (b ∷ bs) (inl h) = absurd (omega arith)
+  none-left s (c ∷ cs) (b ∷ bs) (inr h) = absurd (omega arith)
+
+  -- the loop over them is at its end
+  pub fields-done : (s : Sheet) (i : Iter declared.Class) (j : Iter ℕ) → ((u : Iter declared.Class) × iter_steps i None u) ⊎ ((u : Iter ℕ) × iter_steps j None u)
+      → first_bad L s (map class_meant (iter_rest i)) (iter_rest j) ≡ 0
+  fields-done s i j (inl e) = none-left s (iter_rest i) (iter_rest j) (inl e.1.0)
+  fields-done s i j (inr e) = none-left s (iter_rest i) (iter_rest j) (inr e.1.0)
 
   -- ---- the records
 
@@ -155,28 +175,55 @@ module _ (L : ℕ) where
           unfolding this on-from
           next-record e = unpreceded on-from (via (step e) o)
 
-  -- ---- the same for a caller that has it all in one: a whole record, of n bytes, starts at `at`
+  -- ---- the same for a caller that has it all in one: a whole record of kind k, with a body of n bytes, starts at `at`
 
-  pub record Here (file : List ℕ) (s : Sheet) (at n : ℕ) : Type 0 where
+  pub record Here (file : List ℕ) (s : Sheet) (at k n : ℕ) : Type 0 where
     pub on : On file s at
     pub inside : at < length file
-    pub is : n ≡ body_length (get_or file at 0)
+    pub kind-is : k ≡ get_or file at 0
+    pub is : n ≡ body_length k
     pub some : n ≡ 0 → ⊥
     pub room : n ≤ length file - at - 1
 
-module _ {L : ℕ} {file : List ℕ} {s : Sheet} {at n : ℕ} (w : Here L file s at n) where
-  pub part_length : length (part file at n) ≡ n
-  part_length = rw (body_is file at n) (body-long L file s at w.on w.inside n w.is w.some w.room)
+  pub whole-record : {file : List ℕ} {s : Sheet} {at : ℕ} (kind : Kind) (cs : List declared.Class) → number_of kind ≡ get_or file at 0
+      → map class_meant cs ≡ fields_of (number_of kind) → On file s at → at < length file → length cs ≤ length file - at - 1
+      → Here file s at (number_of kind) (length cs)
+  whole-record kind cs e f o h room =
+      let long = fields-length cs (number_of kind) f in record {
+        on = o;
+        inside = h;
+        kind-is = e;
+        is = long;
+        some = (λ z. some-body kind (sym long ∙ z));
+        room = room;
+      }
 
-  pub here-bad-field : (r : ℕ) → first_bad L s (fields_of (get_or file at 0)) (part file at n) ≡ r → (r ≡ 0 → ⊥) → Agrees (stopped s r at) (whole L file)
-  here-bad-field r e = bad-field L file s at w.on w.inside n w.is w.some w.room r (rw (body_is file at n) at e)
+  pub cut-record : (file : List ℕ) (s : Sheet) (at : ℕ) (kind : Kind) (cs : List declared.Class) → number_of kind ≡ get_or file at 0
+      → map class_meant cs ≡ fields_of (number_of kind) → On file s at → at < length file → length file - at - 1 < length cs
+      → Agrees (stopped s 2 at) (whole file)
+  cut-record file s at kind cs e f o h l =
+      let long = fields-length cs (number_of kind) f in
+      cut_short file s at o h (length cs) (rw e at long) (λ z. some-body kind (sym long ∙ z)) l
 
-  module _ (g : first_bad L s (fields_of (get_or file at 0)) (part file at n) ≡ 0) where
-    pub here-fits : Fits L s (fields_of (get_or file at 0)) (part file at n)
-    here-fits = none-bad-fits L s (fields_of (get_or file at 0)) (part file at n) (part_length ∙ w.is) g
+module _ {L : ℕ} {file : List ℕ} {s : Sheet} {at k n : ℕ} (w : Here L file s at k n) where
+  here-is : n ≡ body_length (get_or file at 0)
+  here-is = rw (← w.kind-is) w.is
 
-    pub here-bad-record : (r : ℕ) → whole_refusal s (get_or file at 0) (part file at n) ≡ r → (r ≡ 0 → ⊥) → Agrees (stopped s r at) (whole L file)
-    here-bad-record r e = bad-record L file s at w.on w.inside n w.is w.some w.room (rw (body_is file at n) at g) r (rw (body_is file at n) at e)
+  part_length : length (part file at n) ≡ n
+  part_length = rw (body_is file at n) (body-long L file s at w.on w.inside n here-is w.some w.room)
 
-    pub here-next : whole_refusal s (get_or file at 0) (part file at n) ≡ 0 → On L file (after s (get_or file at 0) (part file at n)) (at + 1 + n)
-    here-next e = rw (body_is file at n) (next-record L file s at w.on w.inside n w.is w.some w.room (rw (body_is file at n) at g) (rw (body_is file at n) at e))
+  pub here-bad-field : (r : ℕ) → first_bad L s (fields_of k) (part file at n) ≡ r → (r ≡ 0 → ⊥) → Agrees (stopped s r at) (whole L file)
+  here-bad-field r e = bad-field L file s at w.on w.inside n here-is w.some w.room r (rw (w.kind-is, body_is file at n) at e)
+
+  module _ (g : first_bad L s (fields_of k) (part file at n) ≡ 0) where
+    pub here-fits : Fits L s (fields_of k) (part file at n)
+    here-fits = none-bad-fits L s (fields_of k) (part file at n) (part_length ∙ w.is) g
+
+    pub here-bad-record : (r : ℕ) → whole_refusal s k (part file at n) ≡ r → (r ≡ 0 → ⊥) → Agrees (stopped s r at) (whole L file)
+    here-bad-record r e =
+        bad-record L file s at w.on w.inside n here-is w.some w.room (rw (w.kind-is, body_is file at n) at g) r (rw (w.kind-is, body_is file at n) at e)
+
+    pub here-next : whole_refusal s k (part file at n) ≡ 0 → On L file (after s k (part file at n)) (at + 1 + n)
+    here-next e =
+        rw (w.kind-is, body_is file at n)
+        (next-record L file s at w.on w.inside n here-is w.some w.room (rw (w.kind-is, body_is file at n) at g) (rw (w.kind-is, body_is file at n) at e))

@@ -7,103 +7,73 @@ ghost use Rattle.rows.specs.Edition.{labels};
 ghost use Rattle.sheet.specs.View.{sheet_of};
 ghost use Rattle.format.specs.Sheet.{start};
 ghost use Rattle.format.specs.Reading.{read_from, read_file};
+ghost use Rattle.reader.specs.Outcome.{IsEnding, IsReading};
 
+use answer::Refusal;
+use layout::Kind;
 use sheet::Sheet;
 
-// What a file declares, or the number of its refusal (0 is ok) and the position.
-#[derive(Clone, Copy)]
-pub struct Reading {
-    pub sheet: Sheet,
-    pub refusal: u8,
+// Why a file is refused, and where.
+#[derive(Clone, Copy, PartialEq, Eq)]
+pub struct Refused {
+    pub refusal: Refusal,
     pub position: usize,
 }
 
-// The records in order.
-fn read_records(file: &[u8], wide: bool) -> Reading
-    ensures sheet_value { sheet_of wide result.sheet ≡ (read_from (labels wide) (start (labels wide)) 0 file.now).sheet }
-    ensures refusal_value { result.refusal ≡ (read_from (labels wide) (start (labels wide)) 0 file.now).refusal }
-    ensures position_value { result.position ≡ (read_from (labels wide) (start (labels wide)) 0 file.now).position }
+// The records in order, from a fresh sheet: what they declare, and whether one was refused.
+fn read_records(sheet: &mut Sheet, file: &[u8], wide: bool) -> Result<(), Refused>
+    requires { sheet_of wide sheet.old ≡ start (labels wide) }
+    ensures sheet_value { sheet_of wide sheet.new ≡ (read_from (labels wide) (start (labels wide)) 0 file.now).sheet }
+    ensures ending { IsEnding result (read_from (labels wide) (start (labels wide)) 0 file.now) }
 {
-    let lengths = layout::lengths();
-    let classes = layout::classes();
-    let mut sheet = sheet::fresh(wide);
-    let mut refusal: u8 = 0;
     let mut at: usize = 0;
-    let position = 'records: loop {
+    let (refusal, position) = 'records: loop {
         if file.len() <= at {
-            break 'records at;
+            return Ok(());
         }
-        let kind = file[at];
-        let k = kind as usize;
-        if 27 <= k {
-            refusal = 1;
-            break 'records at;
-        }
-        let n = lengths[k] as usize;
-        if n == 0 {
-            refusal = 1;
-            break 'records at;
-        }
+        let Some(kind) = Kind::of(file[at]) else {
+            break 'records (Refusal::UnknownKind, at);
+        };
+        let fields = kind.fields();
+        let n = fields.len();
         if file.len() - at - 1 < n {
-            refusal = 2;
-            break 'records at;
+            break 'records (Refusal::RecordCutShort, at);
         }
-        let row = classes[k];
         let body = &file[at + 1..at + 1 + n];
-        let mut j: usize = 0;
-        'fields: while j < n {
-            let bad = fields::field_refusal(wide, &sheet.types, &sheet.owners, row[j], body[j]);
-            if bad != 0 {
-                refusal = bad;
-                break 'records at; // the kind byte's position
+        for (class, byte) in fields.iter().zip(body) {
+            if let Err(refusal) = fields::judge(wide, &sheet.types, &sheet.owners, *class, *byte) {
+                break 'records (refusal, at); // the kind byte's position
             }
-            j += 1;
         }
         if sheet::declares(kind) {
-            let taken = sheet.take(wide, kind, body);
-            let no = taken.refusal;
-            if no != 0 {
-                refusal = no;
-                break 'records at;
+            let (next, taken) = sheet.take(wide, kind, body);
+            *sheet = next;
+            if let Err(refusal) = taken {
+                break 'records (refusal, at);
             }
-            let next = taken.sheet;
-            sheet = next;
         }
         at = at + 1 + n;
     };
-    Reading {
-        sheet,
-        refusal,
-        position,
-    }
+    Err(Refused { refusal, position })
 }
 
 // A whole file: not too long, its records in order, and then no function left without its record.
-pub fn read(file: &[u8], wide: bool) -> Reading
-    ensures sheet_value { sheet_of wide result.sheet ≡ (read_file (labels wide) file.now).sheet }
-    ensures refusal_value { result.refusal ≡ (read_file (labels wide) file.now).refusal }
-    ensures position_value { result.position ≡ (read_file (labels wide) file.now).position }
+pub fn read(file: &[u8], wide: bool) -> Result<Sheet, Refused>
+    ensures { IsReading wide result (read_file (labels wide) file.now) }
 {
     if layout::LONGEST < file.len() {
-        return Reading {
-            sheet: sheet::fresh(wide),
-            refusal: 9,
+        return Err(Refused {
+            refusal: Refusal::FileTooLong,
             position: 0,
-        };
+        });
     }
-    let r = read_records(file, wide);
-    let no = r.refusal;
-    if no != 0 {
-        return r;
+    let mut sheet = sheet::fresh(wide);
+    read_records(&mut sheet, file, wide)?;
+    if !sheet.is_complete(wide) {
+        return Err(Refused {
+            refusal: Refusal::FunctionMissing,
+            position: file.len(),
+        });
     }
-    let sheet = r.sheet;
-    if sheet.is_complete(wide) {
-        return r;
-    }
-    let position = r.position;
-    Reading {
-        sheet,
-        refusal: 7,
-        position,
-    }
+    Ok(sheet)
 }

@@ -2,4 +2,3 @@
 pub mod Ranges
 pub mod Walks
 pub mod Rules
-pub mod Saying

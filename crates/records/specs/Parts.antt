@@ -1,11 +1,11 @@
 -- What the bytes of a body are, by the record's kind: variables, labels, names and keys (document 01, "The statement file"). Assumes nothing.
-use Rattle.std.specs.Prelude.{List, cond, ℕ, ◌+◌, get_or, eqb}
+use Rattle.std.specs.Prelude.{List, [], ◌∷◌, cond, ℕ, ◌+◌, get_or, eqb}
 use Rattle.rows.specs.declared.Var.{Var}
 use Rattle.rows.specs.declared.Label.{Label}
 use Rattle.rows.specs.declared.Name.{Name}
 use Rattle.records.specs.declared.Site.{Site}
 use Rattle.records.specs.declared.Statement.{Statement}
-use Rattle.records.specs.declared.Statement.TheVariants.{Nothing, Named, Grant, Property, Held, Copy, Load, Store, Make, MakeFunction, Call, New, Throw, Catch, Convert}
+use Rattle.records.specs.declared.Statement.TheVariants.{Nothing, Named, Grant, Property, Held, Copy, Load, Store, Make, MakeFunction, Call, New, Return, Throw, Catch, Convert}
 
 abbrev pub var_in : List ℕ → ℕ → Var
 var_in b j = record { 0 = get_or b j 0 }
@@ -52,15 +52,8 @@ site_in b first = record {
   scope = label_in b 0;
   result = var_in b 1;
   callee = var_in b 2;
-  inputs = record {
-    this = var_in b 3;
-    first = var_in b first;
-    second = var_in b (first + 1);
-    third = var_in b (first + 2);
-    fourth = var_in b (first + 3);
-    fifth = var_in b (first + 4);
-    sixth = var_in b (first + 5);
-  };
+  inputs =
+      var_in b 3 ∷ var_in b first ∷ var_in b (first + 1) ∷ var_in b (first + 2) ∷ var_in b (first + 3) ∷ var_in b (first + 4) ∷ var_in b (first + 5) ∷ [];
 }
 
 -- 21 and 22
@@ -79,3 +72,23 @@ catch_in b = Catch (label_in b 0) (var_in b 1)
 
 abbrev pub convert_in : List ℕ → Statement
 convert_in b = Convert (label_in b 0) (var_in b 1)
+
+-- a body of kind k; what is no kind here only declares
+abbrev pub statement_in : ℕ → List ℕ → Statement
+statement_in k b =
+    cond (eqb k 5) (named_in b)
+    (cond (eqb k 6) (grant_in b)
+    (cond (eqb k 7) (property_in b)
+    (cond (eqb k 8) (held_in b)
+    (cond (eqb k 16) (copy_in b)
+    (cond (eqb k 17) (load_in b)
+    (cond (eqb k 18) (store_in b)
+    (cond (eqb k 19) (make_in b)
+    (cond (eqb k 20) (make_function_in b)
+    (cond (eqb k 21) (call_in b)
+    (cond (eqb k 22) (new_in b)
+    (cond (eqb k 23) Return
+    (cond (eqb k 24) (throw_in b)
+    (cond (eqb k 25) (catch_in b)
+    (cond (eqb k 26) (convert_in b)
+    Nothing))))))))))))))

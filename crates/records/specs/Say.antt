@@ -1,12 +1,12 @@
 -- What a record says, as the code holds it: the rules of a statement. Assumes nothing.
-use Rattle.std.specs.Prelude.{List, [], ◌∷◌, map, ℕ, zero, suc, ◌<◌}
+use Rattle.std.specs.Prelude.{List, [], ◌∷◌, map, ℕ, ◌<◌, get_or}
 use Rattle.layout.specs.Key.{Key}
 use Rattle.rules.specs.Rule.{Rule, every}
 use Rattle.format.specs.Records.{Record}
 use Rattle.program.specs.Statement as say
 use Rattle.program.specs.Program.{Program}
 use Rattle.analysis.specs.Rules.{rule_of}
-use Rattle.records.specs.declared.Inputs.{Inputs}
+use Rattle.rows.specs.declared.Var.{Var}
 use Rattle.records.specs.declared.Statement.{Statement}
 use Rattle.records.specs.declared.Statement.TheVariants.{Nothing, Named, Grant, Property, Held, Copy, Load, Store, Make, MakeFunction, Call, New, Return, Throw, Catch, Convert}
 
@@ -17,19 +17,13 @@ saying p r = map (rule_of p) (say.statements_of r)
 abbrev pub record_rule : Program → ℕ → List ℕ → Rule
 record_rule p k b = every (saying p (record { kind = k; body = b }))
 
--- the six arguments
-abbrev pub arguments : Inputs → List ℕ
-arguments i = i.first.0 ∷ i.second.0 ∷ i.third.0 ∷ i.fourth.0 ∷ i.fifth.0 ∷ i.sixth.0 ∷ []
-
 -- the j-th input of a call: this, then the arguments
-abbrev pub input_at : Inputs → ℕ → ℕ
-input_at i zero = i.this.0
-input_at i (suc zero) = i.first.0
-input_at i (suc (suc zero)) = i.second.0
-input_at i (suc (suc (suc zero))) = i.third.0
-input_at i (suc (suc (suc (suc zero)))) = i.fourth.0
-input_at i (suc (suc (suc (suc (suc zero))))) = i.fifth.0
-input_at i (suc (suc (suc (suc (suc (suc j)))))) = i.sixth.0
+abbrev pub input_at : List Var → ℕ → ℕ
+input_at inputs j = (get_or inputs j (record { 0 = 0 })).0
+
+-- the six arguments
+abbrev pub arguments : List Var → List ℕ
+arguments i = input_at i 1 ∷ input_at i 2 ∷ input_at i 3 ∷ input_at i 4 ∷ input_at i 5 ∷ input_at i 6 ∷ []
 
 -- the statement; what no rule reads is left out
 abbrev pub spoken : Statement → List say.Statement
@@ -43,8 +37,8 @@ spoken (Load y x key w) = say.load 0 y.0 x.0 key w.0 ∷ []
 spoken (Store x key a) = say.store 0 x.0 key a.0 ∷ []
 spoken (Make y l) = say.make 0 y.0 l.0 ∷ []
 spoken (MakeFunction y l q) = say.make_function 0 y.0 l.0 q.0 ∷ []
-spoken (Call s) = say.call s.scope.0 s.result.0 s.callee.0 s.inputs.this.0 (arguments s.inputs) ∷ []
-spoken (New s l) = say.new s.scope.0 s.result.0 s.callee.0 s.inputs.this.0 l.0 (arguments s.inputs) ∷ []
+spoken (Call s) = say.call s.scope.0 s.result.0 s.callee.0 (input_at s.inputs 0) (arguments s.inputs) ∷ []
+spoken (New s l) = say.new s.scope.0 s.result.0 s.callee.0 (input_at s.inputs 0) l.0 (arguments s.inputs) ∷ []
 spoken Return = say.return 0 0 ∷ []
 spoken (Throw k x) = say.throw k.0 x.0 ∷ []
 spoken (Catch k y) = say.catch k.0 y.0 ∷ []

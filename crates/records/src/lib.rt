@@ -1,29 +1,22 @@
 // The records of a readable file: where the next one begins, and what each says, with its bytes as variables, labels and names.
 #![tactic(auto)]
 
-ghost use Rattle.std.specs.Prelude.{◌≡◌, ◌+◌, ◌<◌, ◌≤◌, length, get_or};
+ghost use Rattle.std.specs.Prelude.{◌≡◌, ◌+◌, ◌-◌, ◌<◌, ◌≤◌, length, get_or};
+ghost use Rattle.std.specs.Iterator.{at_most};
 ghost use Rattle.rows.specs.Edition.{labels};
 ghost use Rattle.layout.specs.Layout.{body_length};
 ghost use Rattle.format.specs.Reading.{longest};
 ghost use Rattle.program.specs.Program.{Program};
 ghost use Rattle.records.specs.Range.{InRange};
 ghost use Rattle.records.specs.Walk.{Walk, body_at};
-ghost use Rattle.records.specs.Say.{record_rule, input_at, rule_by, InBounds};
-ghost use Rattle.records.specs.Parts.{named_in, grant_in, property_in, held_in, copy_in, load_in, store_in, make_in, make_function_in, site_in, call_in, new_in, throw_in, catch_in, convert_in};
+ghost use Rattle.records.specs.Step.{Steps};
+ghost use Rattle.records.specs.Say.{record_rule, rule_by, InBounds};
+ghost use Rattle.records.specs.Parts.{site_in, statement_in};
 
 use rows::{Label, Name, Var};
 
-// What a call hands over: this and six arguments.
-#[derive(Clone, Copy)]
-pub struct Inputs {
-    pub this: Var,
-    pub first: Var,
-    pub second: Var,
-    pub third: Var,
-    pub fourth: Var,
-    pub fifth: Var,
-    pub sixth: Var,
-}
+// What a call hands over: this, then six arguments.
+pub type Inputs = [Var; 7];
 
 // Where a function is called: the scope, the variable of the result, the callee, the inputs.
 #[derive(Clone, Copy)]
@@ -70,75 +63,6 @@ pub enum Statement {
     Convert(Label, Var),
 }
 
-// ---- one function for each kind
-
-fn named(body: &[u8]) -> Statement
-    requires { length body.now ≡ 3 }
-    ensures { result ≡ named_in body.now }
-{
-    let name = body[2];
-    if name == 255 {
-        return Statement::Nothing;
-    }
-    Statement::Named(Var(body[0]), Name(name))
-}
-
-fn grant(body: &[u8]) -> Statement
-    requires { length body.now ≡ 1 }
-    ensures { result ≡ grant_in body.now }
-{
-    Statement::Grant(Var(body[0]))
-}
-
-fn property(body: &[u8]) -> Statement
-    requires { length body.now ≡ 3 }
-    ensures { result ≡ property_in body.now }
-{
-    Statement::Property(Label(body[0]), Name(body[1]), Label(body[2]))
-}
-
-fn held(body: &[u8]) -> Statement
-    requires { length body.now ≡ 2 }
-    ensures { result ≡ held_in body.now }
-{
-    Statement::Held(Var(body[0]), Label(body[1]))
-}
-
-fn copy(body: &[u8]) -> Statement
-    requires { length body.now ≡ 3 }
-    ensures { result ≡ copy_in body.now }
-{
-    Statement::Copy(Var(body[1]), Var(body[2]))
-}
-
-fn load(body: &[u8]) -> Statement
-    requires { length body.now ≡ 5 }
-    ensures { result ≡ load_in body.now }
-{
-    Statement::Load(Var(body[1]), Var(body[2]), body[3], Label(body[4]))
-}
-
-fn store(body: &[u8]) -> Statement
-    requires { length body.now ≡ 4 }
-    ensures { result ≡ store_in body.now }
-{
-    Statement::Store(Var(body[1]), body[2], Var(body[3]))
-}
-
-fn make(body: &[u8]) -> Statement
-    requires { length body.now ≡ 3 }
-    ensures { result ≡ make_in body.now }
-{
-    Statement::Make(Var(body[1]), Label(body[2]))
-}
-
-fn make_function(body: &[u8]) -> Statement
-    requires { length body.now ≡ 4 }
-    ensures { result ≡ make_function_in body.now }
-{
-    Statement::MakeFunction(Var(body[1]), Label(body[2]), Label(body[3]))
-}
-
 // The call of a body whose arguments begin at byte `first`.
 fn call_site(body: &[u8], first: usize) -> Site
     requires { (4 ≤ first) × (length body.now ≡ first + 6) }
@@ -148,102 +72,83 @@ fn call_site(body: &[u8], first: usize) -> Site
         scope: Label(body[0]),
         result: Var(body[1]),
         callee: Var(body[2]),
-        inputs: Inputs {
-            this: Var(body[3]),
-            first: Var(body[first]),
-            second: Var(body[first + 1]),
-            third: Var(body[first + 2]),
-            fourth: Var(body[first + 3]),
-            fifth: Var(body[first + 4]),
-            sixth: Var(body[first + 5]),
-        },
+        inputs: [
+            Var(body[3]),
+            Var(body[first]),
+            Var(body[first + 1]),
+            Var(body[first + 2]),
+            Var(body[first + 3]),
+            Var(body[first + 4]),
+            Var(body[first + 5]),
+        ],
     }
 }
 
-fn call(body: &[u8]) -> Statement
-    requires { length body.now ≡ 10 }
-    ensures { result ≡ call_in body.now }
-{
-    Statement::Call(call_site(body, 4))
-}
-
-fn new(body: &[u8]) -> Statement
-    requires { length body.now ≡ 11 }
-    ensures { result ≡ new_in body.now }
-{
-    Statement::New(call_site(body, 5), Label(body[4]))
-}
-
-fn throw(body: &[u8]) -> Statement
-    requires { length body.now ≡ 2 }
-    ensures { result ≡ throw_in body.now }
-{
-    Statement::Throw(Label(body[0]), Var(body[1]))
-}
-
-fn catch(body: &[u8]) -> Statement
-    requires { length body.now ≡ 2 }
-    ensures { result ≡ catch_in body.now }
-{
-    Statement::Catch(Label(body[0]), Var(body[1]))
-}
-
-fn convert(body: &[u8]) -> Statement
-    requires { length body.now ≡ 2 }
-    ensures { result ≡ convert_in body.now }
-{
-    Statement::Convert(Label(body[0]), Var(body[1]))
-}
-
-// What the record of this kind and body says.
+// What the record of this kind and body says: a line for each kind. Byte 0 of kinds 16 to 20 is the scope, which no rule reads.
+#[tactic(auto, unfolding(program::specs::Statement::statements_of))]
 pub fn statement_of(wide: bool, kind: u8, body: &[u8]) -> Statement
     requires { InRange (labels wide) kind body.now }
+    ensures read { result ≡ statement_in kind body.now }
     ensures body_value { (p : Program) → record_rule p kind body.now ≡ rule_by p result }
     ensures in_bounds { InBounds (labels wide) result }
 {
     match kind {
-        5 => named(body),
-        6 => grant(body),
-        7 => property(body),
-        8 => held(body),
-        16 => copy(body),
-        17 => load(body),
-        18 => store(body),
-        19 => make(body),
-        20 => make_function(body),
-        21 => call(body),
-        22 => new(body),
+        5 if body[2] != 255 => Statement::Named(Var(body[0]), Name(body[2])),
+        6 => Statement::Grant(Var(body[0])),
+        7 => Statement::Property(Label(body[0]), Name(body[1]), Label(body[2])),
+        8 => Statement::Held(Var(body[0]), Label(body[1])),
+        16 => Statement::Copy(Var(body[1]), Var(body[2])),
+        17 => Statement::Load(Var(body[1]), Var(body[2]), body[3], Label(body[4])),
+        18 => Statement::Store(Var(body[1]), body[2], Var(body[3])),
+        19 => Statement::Make(Var(body[1]), Label(body[2])),
+        20 => Statement::MakeFunction(Var(body[1]), Label(body[2]), Label(body[3])),
+        21 => Statement::Call(call_site(body, 4)),
+        22 => Statement::New(call_site(body, 5), Label(body[4])),
         23 => Statement::Return,
-        24 => throw(body),
-        25 => catch(body),
-        26 => convert(body),
+        24 => Statement::Throw(Label(body[0]), Var(body[1])),
+        25 => Statement::Catch(Label(body[0]), Var(body[1])),
+        26 => Statement::Convert(Label(body[0]), Var(body[1])),
         _ => Statement::Nothing,
     }
 }
 
-impl Inputs {
-    // The j-th input: this, then the arguments.
-    pub fn at(self, j: usize) -> Var
-        ensures { result.0 ≡ input_at self j }
-    {
-        match j {
-            0 => self.this,
-            1 => self.first,
-            2 => self.second,
-            3 => self.third,
-            4 => self.fourth,
-            5 => self.fifth,
-            _ => self.sixth,
-        }
-    }
-}
-
 // Where the record after the one at `at` begins.
-pub fn after(wide: bool, file: &[u8], at: usize) -> usize
-    requires { Walk (labels wide) file.now at × (at < length file.now) × (length file.now ≤ longest) }
+fn after(file: &[u8], at: usize) -> usize
+    requires { at < length file.now }
     ensures { result ≡ at + 1 + body_length (get_or file.now at 0) }
 {
     at + 1 + layout::body_length(file[at])
+}
+
+// Where a walk over the records of a file stands.
+#[derive(Drop)]
+pub struct Cursor<'a> {
+    pub file: &'a [u8],
+    pub at: usize,
+}
+
+impl<'a> Iterator for Cursor<'a> {
+    type Item = usize;
+
+    ghost next_gives = { Steps };
+
+    ghost remaining = { λ s. at_most (length s.file.now - s.at) };
+
+    fn next(&mut self) -> Option<usize> {
+        let Cursor { file, at } = *self;
+        if at >= file.len() {
+            return None;
+        }
+        self.at = after(file, at);
+        Some(at)
+    }
+}
+
+// The positions of the records of a file, in order.
+pub fn positions(file: &[u8]) -> Cursor
+    ensures { (result.file.now ≡ file.now) × (result.at ≡ 0) }
+{
+    Cursor { file, at: 0 }
 }
 
 // What the record at `at` says.
@@ -252,6 +157,5 @@ pub fn statement_at(wide: bool, file: &[u8], at: usize) -> Statement
     ensures at_value { (p : Program) → record_rule p (get_or file.now at 0) (body_at file.now at) ≡ rule_by p result }
     ensures in_bounds { InBounds (labels wide) result }
 {
-    let next = after(wide, file, at);
-    statement_of(wide, file[at], &file[at + 1..next])
+    statement_of(wide, file[at], &file[at + 1..after(file, at)])
 }

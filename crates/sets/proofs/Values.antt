@@ -1,7 +1,7 @@
 -- Laws of sets: the laws of runs of words, at the four words of a set. Assumes nothing.
 use mathlib.Core.Path.{◌≡◌, refl, sym, ap, ◌∙◌}
 use mathlib.Core.Bool.{Bool, true, false}
-use Prim.Native.Nat.{ℕ, zero, suc, ◌+◌, ◌-◌, ◌*◌, ◌^◌, ◌≤◌, ◌<◌}
+use Prim.Native.Nat.{ℕ, zero, suc, ◌+◌, ◌*◌, ◌/◌, ◌%◌, ◌^◌, ◌≤◌, ◌<◌}
 use native.Mathlib.Decide.{ℕ_discrete}
 use native.Mathlib.Nat.{zero-add}
 use native.Mathlib.Omega.{arith}
@@ -16,6 +16,7 @@ use Rattle.rows.specs.Run.{Words, number}
 use Rattle.rows.proofs.Run.{number_lt}
 use Rattle.rows.specs.Edition.{words, labels}
 use Rattle.sets.specs.Value.{words_of, value}
+use Rattle.sets.specs.Each.{EachWord}
 use Rattle.sets.specs.declared.Set.{Set}
 use Rattle.sets.proofs.Numbers.{Bitwise, number_of, number_bit, number-count, count_none, taken_here, taken-later}
 
@@ -30,31 +31,27 @@ good-small g (suc (suc zero)) = g.2
 good-small g (suc (suc (suc zero))) = g.3
 good-small g (suc (suc (suc (suc i)))) = omega arith
 
--- the words that count of r are f of those of x and y
-abbrev pub WordByWord : (ℕ → ℕ → ℕ) → Bool → Set → Set → Set → Type 0
-WordByWord f true x y r = (r.a ≡ f x.a y.a) × (r.b ≡ f x.b y.b) × (r.c ≡ f x.c y.c) × (r.d ≡ f x.d y.d)
-WordByWord f false x y r = r.a ≡ f x.a y.a
-
-pub value_of : {f : ℕ → ℕ → ℕ} {wide : Bool} → Bitwise f → (b : Bool) (x y r : Set) → wide ≡ b → Good x → Good y → WordByWord f b x y r
-    → value wide r ≡ f (value wide x) (value wide y)
+-- a set made word by word by an operation on bits
+pub each-value : {f : ℕ → ℕ → ℕ} {R : ℕ → ℕ → ℕ → Type 0} → Bitwise f → (wide : Bool) (x y r : Set) → Good x → Good y
+    → EachWord wide R x y r → ((m n k : ℕ) → R m n k → k ≡ f m n) → value wide r ≡ f (value wide x) (value wide y)
 unfolding value
-value_of {f} o b x y r is gx gy e =
-    rw is (number_of o (words b) (words_of x) (words_of y) (words_of r) 0 0 0 (good-small gx) (good-small gy) (each b e))
+each-value {f} {R} o wide x y r gx gy e is =
+    number_of o (words wide) (words_of x) (words_of y) (words_of r) 0 0 0 (good-small gx) (good-small gy) (word wide e)
   where
-    each : (b : Bool) → WordByWord f b x y r → (m : ℕ) → m < words b → get_or (words_of r) (0 + m) 0 ≡ f (get_or (words_of x) (0 + m) 0) (get_or (words_of y) (0 + m) 0)
-    each true e zero h = e.0
-    each true e (suc zero) h = e.1
-    each true e (suc (suc zero)) h = e.2
-    each true e (suc (suc (suc zero))) h = e.3
-    each true e (suc (suc (suc (suc m)))) h = absurd (omega arith)
-    each false e zero h = e
-    each false e (suc m) h = absurd (omega arith)
+    word : (b : Bool) → EachWord b R x y r → (m : ℕ) → m < words b → get_or (words_of r) (0 + m) 0 ≡ f (get_or (words_of x) (0 + m) 0) (get_or (words_of y) (0 + m) 0)
+    word true e zero h = is _ _ _ e.0
+    word true e (suc zero) h = is _ _ _ e.1
+    word true e (suc (suc zero)) h = is _ _ _ e.2
+    word true e (suc (suc (suc zero))) h = is _ _ _ e.3
+    word true e (suc (suc (suc (suc m)))) h = absurd (omega arith)
+    word false e zero h = is _ _ _ e
+    word false e (suc m) h = absurd (omega arith)
 
 pub value-lt : (wide : Bool) (x : Set) → Good x → value wide x < 2 ^ (64 * words wide)
 unfolding value
 value-lt wide x g = number_lt (words wide) (words_of x) 0 (good-small g)
 
-word-labels : (wide : Bool) → 64 * words wide ≡ labels wide
+pub word-labels : (wide : Bool) → 64 * words wide ≡ labels wide
 word-labels true = refl
 word-labels false = refl
 
@@ -92,15 +89,6 @@ bounds a b =
 -- what a test for an empty set says
 pub is_none : (v : ℕ) {b : Bool} → b ≡ eqb v 0 → b ≡ true → v ≡ 0
 is_none v e h = eqb-true v 0 (sym e ∙ h)
-
--- what `while !is_empty(wide, rest)` knows in the loop, and behind it
-pub some_left : (v : ℕ) {b : Bool} → b ≡ eqb v 0 → b ≡ false → 0 < v
-some_left v {b} e h =
-    let d = eqb-false v 0 (sym e ∙ h) in
-    omega (arith, d)
-
-pub none_left : (v : ℕ) {b : Bool} → b ≡ eqb v 0 → b ≡ true → v ≡ 0
-none_left v {b} e h = is_none v e h
 
 -- a run is 0 where its words are
 cat-zero : (n w : ℕ) → n * 2 ^ 64 + w ≡ 0 → (n ≡ 0) × (w ≡ 0)
@@ -155,45 +143,40 @@ value-bit wide x m j {l} g h e q =
     (number_bit (words wide) (words_of x) 0 m j (good-small g) (word_counts wide m l h (omega arith)) q
     ∙ ap (λ (y : ℕ). bit (get_or (words_of x) y 0) j) (zero-add m))
 
+-- what the word of a label says of it
+pub word-contains : (wide : Bool) (x : Set) {n l w : ℕ} {b : Bool} → Good x → l < labels wide → n ≡ l → w ≡ get_or (words_of x) (n / 64) 0
+    → b ≡ eqb (bit w (n % 64)) 1 → b ≡ eqb (bit (value wide x) l) 1
+word-contains wide x {n} {l} g h e f a =
+    a
+    ∙ ap (λ (w : ℕ). eqb (bit w (n % 64)) 1) f
+    ∙ ap (λ (d : ℕ). eqb d 1) (sym (value-bit wide x (n / 64) (n % 64) g h (omega arith) (omega arith)))
+
 -- ---- a single label
 
-pow-shift : (j l : ℕ) → j ≤ l → 2 ^ (l - j) * 2 ^ j ≡ 2 ^ l
-pow-shift j l h = let e : (l - j) + j ≡ l = omega arith in sym (pow-add 2 (l - j) j) ∙ ap (λ (n : ℕ). 2 ^ n) e
+-- word m, and nothing in the other words
+abbrev pub only : ℕ → ℕ → Set
+only zero w = record { a = w; b = 0; c = 0; d = 0 }
+only (suc zero) w = record { a = 0; b = w; c = 0; d = 0 }
+only (suc (suc zero)) w = record { a = 0; b = 0; c = w; d = 0 }
+only (suc (suc (suc m))) w = record { a = 0; b = 0; c = 0; d = w }
 
-pub single-a : (wide : Bool) (l w : ℕ) → w ≡ 2 ^ l → value wide (record { a = w; b = 0; c = 0; d = 0 }) ≡ 2 ^ l
+only-value : (wide : Bool) (m w : ℕ) → m < words wide → value wide (only m w) ≡ w * 2 ^ (64 * m)
 unfolding value number
-single-a true l w e = omega arith
-single-a false l w e = omega arith
+only-value true zero w h = omega arith
+only-value true (suc zero) w h = omega arith
+only-value true (suc (suc zero)) w h = omega arith
+only-value true (suc (suc (suc zero))) w h = omega arith
+only-value true (suc (suc (suc (suc m)))) w h = absurd (omega arith)
+only-value false zero w h = omega arith
+only-value false (suc m) w h = absurd (omega arith)
 
--- a word that stands one place up
-up : (n l : ℕ) → 64 ≤ l → n ≡ 2 ^ (l - 64) → n * 2 ^ 64 + 0 ≡ 2 ^ l
-up n l h e = omega (arith, pow-shift 64 l h)
-
-alone : (w : ℕ) → 0 * 2 ^ 64 + w ≡ w
-alone w = omega arith
-
-pub single-b : (wide : Bool) (l w : ℕ) → l < labels wide → 64 ≤ l → w ≡ 2 ^ (l - 64) → value wide (record { a = 0; b = w; c = 0; d = 0 }) ≡ 2 ^ l
-unfolding value number
-single-b true l w h q e = up _ l q (alone w ∙ e)
-single-b false l w h q e = absurd (omega arith)
-
-pub single-c : (wide : Bool) (l w : ℕ) → l < labels wide → 128 ≤ l → w ≡ 2 ^ (l - 128) → value wide (record { a = 0; b = 0; c = w; d = 0 }) ≡ 2 ^ l
-unfolding value number
-single-c true l w h q e =
-    let less : l - 128 ≡ l - 64 - 64 = omega arith in
-    up _ l (omega arith) (up _ (l - 64) (omega arith) (alone w ∙ e ∙ ap (λ (n : ℕ). 2 ^ n) less))
-single-c false l w h q e = absurd (omega arith)
-
-pub single-d : (wide : Bool) (l w : ℕ) → l < labels wide → 192 ≤ l → w ≡ 2 ^ (l - 192) → value wide (record { a = 0; b = 0; c = 0; d = w }) ≡ 2 ^ l
-unfolding value number
-single-d true l w h q e =
-    let less : l - 192 ≡ l - 64 - 64 - 64 = omega arith in
-    up _ l (omega arith) (up _ (l - 64) (omega arith) (up _ (l - 64 - 64) (omega arith) (alone w ∙ e ∙ ap (λ (n : ℕ). 2 ^ n) less)))
-single-d false l w h q e = absurd (omega arith)
-
-pub in-last : (wide : Bool) (l : ℕ) → l < labels wide → l - 192 < 64
-in-last true l h = omega arith
-in-last false l h = omega arith
+pub single-value : (wide : Bool) (m : ℕ) {n l w : ℕ} → n ≡ l → l < labels wide → n / 64 ≡ m → w ≡ 2 ^ (n % 64) → value wide (only m w) ≡ 2 ^ l
+single-value wide m {n} {l} e h q f =
+    let p : n % 64 + 64 * m ≡ l = omega arith in
+    only-value wide m _ (word_counts wide m l h (omega arith))
+    ∙ ap (λ (x : ℕ). x * 2 ^ (64 * m)) f
+    ∙ sym (pow-add 2 (n % 64) (64 * m))
+    ∙ ap (λ (x : ℕ). 2 ^ x) p
 
 -- ---- how many labels
 
@@ -212,47 +195,43 @@ size-narrow x is g =
     let none : count_below (number 0 (words_of x) 1) 0 ≡ 0 = count_none (number 0 (words_of x) 1) in
     rw is (omega (arith, number-count 0 (words_of x) 0 (good-small g), none))
 
--- ---- the lowest label
+-- ---- the lowest label: it is in the first word that is not empty
 
-pub next-a : (wide : Bool) (x : Set) (l rest : ℕ) → Good x → Taken 64 x.a l rest
+pub take-a : (wide : Bool) (x : Set) {l rest : ℕ} → Good x → Taken 64 x.a l rest
     → Taken (labels wide) (value wide x) l (value wide (record { a = rest; b = x.b; c = x.c; d = x.d }))
 unfolding value number
-next-a true x l rest g t = taken_here 192 (number 3 (words_of x) 1) g.0 t
-next-a false x l rest g t = taken_here 0 0 g.0 t
+take-a true x g t = taken_here 192 (number 3 (words_of x) 1) g.0 t
+take-a false x g t = taken_here 0 0 g.0 t
 
-pub next-b : (wide : Bool) (x : Set) (l rest : ℕ) → Good x → x.a ≡ 0 → 0 < value wide x → Taken 64 x.b l rest
-    → Taken (labels wide) (value wide x) (64 + l) (value wide (record { a = 0; b = rest; c = x.c; d = x.d }))
-unfolding value number
-next-b true x l rest g a p t =
-    rw a (taken-later 192 (taken_here 128 (number 2 (words_of x) 2) g.1 t))
-next-b false x l rest g a p t = absurd (omega arith)
+-- a word that was empty, and stays so
+abbrev pub Empty : ℕ → ℕ → Type 0
+Empty w v = (w ≡ 0) × (v ≡ 0)
 
-pub next-c : (wide : Bool) (x : Set) (l rest : ℕ) → Good x → x.a ≡ 0 → x.b ≡ 0 → 0 < value wide x → Taken 64 x.c l rest
-    → Taken (labels wide) (value wide x) (128 + l) (value wide (record { a = 0; b = 0; c = rest; d = x.d }))
+pub take-none : (wide : Bool) (x y : Set) → Empty x.a y.a → Empty x.b y.b → Empty x.c y.c → Empty x.d y.d → Empty (value wide x) (value wide y)
+take-none wide x y a b c d = rw (a.0, a.1, b.0, b.1, c.0, c.1, d.0, d.1) (value_none wide, value_none wide)
+
+pub take-none-narrow : {wide : Bool} (x y : Set) → wide ≡ false → Empty x.a y.a → Empty (value wide x) (value wide y)
 unfolding value number
-next-c true x l rest g a b p t =
+take-none-narrow x y is a = rw (is, a.0, a.1) (refl, refl)
+
+pub take-b : {wide : Bool} (x : Set) {l a rest : ℕ} → wide ≡ true → Good x → Empty x.a a → Taken 64 x.b l rest
+    → Taken (labels wide) (value wide x) (64 + l) (value wide (record { a = a; b = rest; c = x.c; d = x.d }))
+unfolding value number
+take-b x is g a t = rw (is, a.0, a.1) (taken-later 192 (taken_here 128 (number 2 (words_of x) 2) g.1 t))
+
+pub take-c : {wide : Bool} (x : Set) {l a b rest : ℕ} → wide ≡ true → Good x → Empty x.a a → Empty x.b b → Taken 64 x.c l rest
+    → Taken (labels wide) (value wide x) (128 + l) (value wide (record { a = a; b = b; c = rest; d = x.d }))
+unfolding value number
+take-c x {l} is g a b t =
     let e : 128 + l ≡ 64 + (64 + l) = omega arith in
-    rw (a, b, e) (taken-later 192 (taken-later 128 (taken_here 64 (number 1 (words_of x) 3) g.2 t)))
-next-c false x l rest g a b p t = absurd (omega arith)
+    rw (is, a.0, a.1, b.0, b.1, e) (taken-later 192 (taken-later 128 (taken_here 64 (number 1 (words_of x) 3) g.2 t)))
 
-pub next-d : (wide : Bool) (x : Set) (l rest : ℕ) → Good x → x.a ≡ 0 → x.b ≡ 0 → x.c ≡ 0 → 0 < value wide x → Taken 64 x.d l rest
-    → Taken (labels wide) (value wide x) (192 + l) (value wide (record { a = 0; b = 0; c = 0; d = rest }))
+pub take-d : {wide : Bool} (x : Set) {l a b c rest : ℕ} → wide ≡ true → Good x → Empty x.a a → Empty x.b b → Empty x.c c → Taken 64 x.d l rest
+    → Taken (labels wide) (value wide x) (192 + l) (value wide (record { a = a; b = b; c = c; d = rest }))
 unfolding value number
-next-d true x l rest g a b c p t =
+take-d x {l} is g a b c t =
     let e : 192 + l ≡ 64 + (64 + (64 + l)) = omega arith in
-    rw (a, b, c, e) (taken-later 192 (taken-later 128 (taken-later 64 (taken_here 0 0 g.3 t))))
-next-d false x l rest g a b c p t = absurd (omega arith)
-
--- where three words are empty and the set is not, the fourth is not
-cat-some : (n w : ℕ) → w ≡ 0 → 0 < n * 2 ^ 64 + w → 0 < n
-cat-some n w e p = omega arith
-
-pub last_some : (wide : Bool) (x : Set) → x.a ≡ 0 → x.b ≡ 0 → x.c ≡ 0 → 0 < value wide x → 0 < x.d
-unfolding value number
-last_some true x a b c p =
-    let q = cat-some (number 1 (words_of x) 3) x.c c (cat-some (number 2 (words_of x) 2) x.b b (cat-some (number 3 (words_of x) 1) x.a a p)) in
-    rw (alone x.d) at q
-last_some false x a b c p = absurd (omega arith)
+    rw (is, a.0, a.1, b.0, b.1, c.0, c.1, e) (taken-later 192 (taken-later 128 (taken-later 64 (taken_here 0 0 g.3 t))))
 
 -- ---- every label
 

@@ -85,57 +85,64 @@ module _ {wide : Bool} {o : ℕ} {p : Program} where
 
 -- ---- a set, spread to the rows that a slot's labels take
 
-left-part : {wide : Bool} {keeps : List ℕ} {pair s x rest : ℕ} {skip : Bool} → Leaves wide keeps pair s x rest skip → (l : ℕ) → On rest l → On s l
+pub left-part : {wide : Bool} {keeps : List ℕ} {pair s x rest : ℕ} {skip : Bool} → Leaves wide keeps pair s x rest skip → (l : ℕ) → On rest l → On s l
 left-part {wide} {keeps} {pair} {s} (some i j e) l h = on-difference s (kept_set wide keeps pair) l (rw e at h)
 left-part (every e) l h = rw e at h
 
+-- the rows that labels take, named otherwise
+pub spread-for : {wide : Bool} {o x least : ℕ} {G H : ℕ → ℕ → Type 0} {t u : List ℕ} {grew : Bool} (rest : ℕ) → Apart wide o → ((l r : ℕ) → On rest l → G l r → H l r)
+    → ((l r : ℕ) → On rest l → H l r → G l r) → SpreadTo wide o (taken_by G rest) x t u grew least → SpreadTo wide o (taken_by H rest) x t u grew least
+spread-for rest w to from done =
+    record {
+      used =
+          used-for w (λ a i r l h. ((h.0.0, h.0.1, to h.0.0 r h.0.1 h.0.2), h.1, h.2))
+          (λ r l h. ((h.0.0, h.0.1, from h.0.0 r h.0.1 h.0.2), h.1, h.2)) done.used;
+      holds = λ r m h. done.holds r m (h.0, h.1, from h.0 r h.1 h.2);
+    }
+
 -- it was given to the labels of `rest`, and the rows of the others hold it
-used-spread : {wide : Bool} {o : ℕ} (p : Program) (s rest : ℕ) {x least : ℕ} {G : ℕ → ℕ → Type 0} {old t u : List ℕ} {grew : Bool} (slot : Slot) → Apart wide o
-    → ((l r : ℕ) → On s l → G l r → Takes wide p slot l r) → ((l r : ℕ) → On s l → Takes wide p slot l r → G l r)
-    → SpreadTo wide o (taken_by G rest) x t u grew least → ((l : ℕ) → On rest l → On s l)
+used-spread : {wide : Bool} {o : ℕ} (p : Program) (s rest : ℕ) {x least : ℕ} {old t u : List ℕ} {grew : Bool} (slot : Slot) → Apart wide o
+    → SpreadTo wide o (taken_by (Takes wide p slot) rest) x t u grew least → ((l : ℕ) → On rest l → On s l)
     → ((l r m : ℕ) → On s l → Takes wide p slot l r → 0 < r → On x m → On rest l ⊎ Has (table_at wide o t) r m)
     → Used wide o (spreading wide p slot s x) old t u grew
-used-spread {wide} {o} p s rest {x} {old = old} {t = t} {u = u} slot w to from done part passed =
+used-spread {wide} {o} p s rest {x} {old = old} {t = t} {u = u} slot w done part passed =
     record {
       all = λ r l h. all r l h (passed h.0 r l h.1 h.2.0 h.2.1 h.2.2);
-      only = reached-for w (λ a i r l h. (h.0.0, part h.0.0 h.0.1, (to h.0.0 r (part h.0.0 h.0.1) h.0.2, h.1, h.2))) done.used.only;
+      only = reached-for w (λ a i r l h. (h.0.0, part h.0.0 h.0.1, (h.0.2, h.1, h.2))) done.used.only;
       says = done.used.says;
     }
   where
     all : (r l : ℕ) (h : spreading wide p slot s x (table_of wide old) r l) → On rest h.0 ⊎ Has (table_at wide o t) r l → Has (table_at wide o u) r l
-    all r l h (inl a) = done.used.all r l ((h.0, a, from h.0 r h.1 h.2.0), h.2.1, h.2.2)
+    all r l h (inl a) = done.used.all r l ((h.0, a, h.2.0), h.2.1, h.2.2)
     all r l h (inr a) = reached-keeps done.used.only r l a
 
-module _ {wide : Bool} {o : ℕ} {p : Program} {x least : ℕ} {G : ℕ → ℕ → Type 0} {t u keeps : List ℕ} {grew : Bool} (slot : Slot) (w : Apart wide o) where
+module _ {wide : Bool} {o : ℕ} {p : Program} {x least : ℕ} {t u keeps : List ℕ} {grew : Bool} (slot : Slot) (w : Apart wide o) where
   -- by the pair of the slot, which may learn
   pub applies-spread : {pair s rest : ℕ} {kept : List ℕ} {skip : Bool} → (Union slot → ⊥) → (pair < pair_count wide → slot_of pair ≡ slot)
-      → ((l r : ℕ) → On s l → G l r → Takes wide p slot l r) → ((l r : ℕ) → On s l → Takes wide p slot l r → G l r) → Leaves wide keeps pair s x rest skip
-      → SpreadTo wide o (taken_by G rest) x t u grew least → Learns wide pair s rest least keeps kept skip
+      → Leaves wide keeps pair s x rest skip → SpreadTo wide o (taken_by (Takes wide p slot) rest) x t u grew least → Learns wide pair s rest least keeps kept skip
       → Applies wide o p (spreading wide p slot s x) t keeps u kept grew
-  applies-spread {s = s} {rest = rest} meets here to from leaves done learns =
+  applies-spread {s = s} {rest = rest} meets here leaves done learns =
       record {
-        uses = λ old since m. used-spread p s rest slot w to from done (left-part leaves) (left-holds here leaves m);
+        uses = λ old since m. used-spread p s rest slot w done (left-part leaves) (left-holds here leaves m);
         memory =
-            λ old since m. learned here meets leaves learns (λ l r q h takes z a. done.holds r q (l, h, from l r (left-part leaves l h) takes) z a)
+            λ old since m. learned here meets leaves learns (λ l r q h takes z a. done.holds r q (l, h, takes) z a)
             (remembers-on w done.used.only m);
       }
 
   -- by the pair of a slot that takes more rows
   pub applies-passed : {pair s rest : ℕ} {skip : Bool} (wider : Slot) → (pair < pair_count wide → slot_of pair ≡ wider)
-      → ((l r : ℕ) → Takes wide p slot l r → Takes wide p wider l r) → ((l r : ℕ) → On s l → G l r → Takes wide p slot l r)
-      → ((l r : ℕ) → On s l → Takes wide p slot l r → G l r) → Leaves wide keeps pair s x rest skip → SpreadTo wide o (taken_by G rest) x t u grew least
-      → Applies wide o p (spreading wide p slot s x) t keeps u keeps grew
-  applies-passed {s = s} {rest = rest} wider here more to from leaves done =
+      → ((l r : ℕ) → Takes wide p slot l r → Takes wide p wider l r) → Leaves wide keeps pair s x rest skip
+      → SpreadTo wide o (taken_by (Takes wide p slot) rest) x t u grew least → Applies wide o p (spreading wide p slot s x) t keeps u keeps grew
+  applies-passed {s = s} {rest = rest} wider here more leaves done =
       record {
-        uses = λ old since m. used-spread p s rest slot w to from done (left-part leaves) (λ l r q h takes. left-holds here leaves m l r q h (more l r takes));
+        uses = λ old since m. used-spread p s rest slot w done (left-part leaves) (λ l r q h takes. left-holds here leaves m l r q h (more l r takes));
         memory = λ old since m. remembers-on w done.used.only m;
       }
 
   -- by no pair
-  pub applies-whole : (s : ℕ) → ((l r : ℕ) → On s l → G l r → Takes wide p slot l r) → ((l r : ℕ) → On s l → Takes wide p slot l r → G l r)
-      → SpreadTo wide o (taken_by G s) x t u grew least → Applies wide o p (spreading wide p slot s x) t keeps u keeps grew
-  applies-whole s to from done =
+  pub applies-whole : (s : ℕ) → SpreadTo wide o (taken_by (Takes wide p slot) s) x t u grew least → Applies wide o p (spreading wide p slot s x) t keeps u keeps grew
+  applies-whole s done =
       record {
-        uses = λ old since m. used-spread p s s slot w to from done (λ l h. h) (λ l r q h takes z a. inl h);
+        uses = λ old since m. used-spread p s s slot w done (λ l h. h) (λ l r q h takes z a. inl h);
         memory = λ old since m. remembers-on w done.used.only m;
       }

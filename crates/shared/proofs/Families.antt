@@ -1,9 +1,9 @@
 -- Unions of rows are what slots tell. Assumes nothing.
-use mathlib.Core.Path.{◌≡◌, refl}
+use mathlib.Core.Path.{◌≡◌, refl, sym, ◌∙◌}
 use mathlib.Core.Logic.{inl, inr}
 use mathlib.Core.Bool.{Bool}
 use mathlib.Core.List.{List, Memᴰ}
-use Prim.Native.Nat.{ℕ, ◌+◌, ◌*◌}
+use Prim.Native.Nat.{ℕ, ◌+◌, ◌*◌, ◌<◌}
 use native.Mathlib.Omega.{arith}
 use Rattle.words.proofs.Bits.{On, on-difference, difference-on, empty-off}
 use Rattle.rows.specs.Edition.{labels}
@@ -13,12 +13,15 @@ use Rattle.layout.specs.Key.{inside, Key}
 use Rattle.rules.specs.Table.{Table}
 use Rattle.program.specs.Program.{Program, names_of}
 use Rattle.uses.specs.Gather.{row_from, under_names, Gathered}
-use Rattle.uses.specs.Spread.{named_rows}
+use Rattle.uses.specs.Use.{Apart}
+use Rattle.uses.specs.Spread.{named_rows, formal_row, taken_by, SpreadTo}
 use Rattle.kept.specs.Pairs.{kept_set, Asks, part, held, all}
-use Rattle.kept.specs.Promise.{chains, throws, handed, under, stored, Tells, Takes}
-use Rattle.host.specs.Lays.{names_in, Lays, Returns, ReturnsOf, Functions, handed_back}
+use Rattle.kept.specs.Promise.{chains, throws, handed, under, input, stored, Tells, Takes}
+use Rattle.host.specs.declared.Host.{Host}
+use Rattle.host.specs.declared.handed.Returns.{Returns}
+use Rattle.host.specs.Lays.{names_in, Lays, FormalsOf, ReturnsOf, Functions, handed_back}
 use Rattle.host.proofs.Returns.{handed-returned, returned-handed}
-use Rattle.shared.proofs.Applied.{gathered-for}
+use Rattle.shared.proofs.Applied.{gathered-for, spread-for}
 
 module _ (wide : Bool) (p : Program) {t : Table} {s r : ℕ} where
   pub chains-told : (base : ℕ) → base ≡ number (labels wide) (chain 0) → Gathered (row_from base) t t s r → Gathered (Tells wide p chains) t t s r
@@ -33,21 +36,27 @@ module _ (wide : Bool) (p : Program) {t : Table} {s r : ℕ} where
       place : (l : ℕ) → base + l ≡ 256 + 33 * labels wide + l
       place l = omega (arith, e)
 
-  pub under-told : {host : List ℕ} (key names : ℕ) → Lays wide p host → Key key → names ≡ names_in host key → Gathered (under_names names) t t s r
+  pub under-told : {host : Host} (key names : ℕ) → Lays wide p host → Key key → names ≡ names_in host key → Gathered (under_names names) t t s r
       → Gathered (Tells wide p (under key)) t t s r
   under-told key names lays k e =
       gathered-for (λ l m o h. (h.0, (lays.names key h.0 k).0 (rw e at h.1), h.2)) (λ l m o h. (h.0, rw e ((lays.names key h.0 k).1 h.1), h.2))
 
 -- the rows of properties are those that the slot takes
-module _ (wide : Bool) (p : Program) {host : List ℕ} (key names : ℕ) (lays : Lays wide p host) (k : Key key) (e : names ≡ names_in host key) (l r : ℕ) where
-  pub named-takes : named_rows names l r → Takes wide p (stored key) l r
-  named-takes h = (h.0, (lays.names key h.0 k).0 (rw e at h.1), h.2)
+pub named-spread : {wide : Bool} {o x least : ℕ} {p : Program} {host : Host} {t u : List ℕ} {grew : Bool} (key names rest : ℕ) → Apart wide o → Lays wide p host
+    → Key key → names ≡ names_in host key → SpreadTo wide o (taken_by (named_rows names) rest) x t u grew least
+    → SpreadTo wide o (taken_by (Takes wide p (stored key)) rest) x t u grew least
+named-spread key names rest w lays k e =
+    spread-for rest w (λ l r o h. (h.0, (lays.names key h.0 k).0 (rw e at h.1), h.2)) (λ l r o h. (h.0, rw e ((lays.names key h.0 k).1 h.1), h.2))
 
-  pub takes-named : Takes wide p (stored key) l r → named_rows names l r
-  takes-named h = (h.0, rw e ((lays.names key h.0 k).1 h.1), h.2)
+-- and those of inputs
+pub input-spread : {wide : Bool} {o x least j : ℕ} {t u : List ℕ} {grew : Bool} (p : Program) (formals : List ℕ) (rest : ℕ) → Apart wide o → j < 7 → FormalsOf p formals
+    → Functions p rest → SpreadTo wide o (taken_by (formal_row formals j) rest) x t u grew least
+    → SpreadTo wide o (taken_by (Takes wide p (input j)) rest) x t u grew least
+input-spread {j = j} p array rest w i formals functions =
+    spread-for rest w (λ l r o e. e ∙ sym (formals l j (functions l o) i)) (λ l r o e. e ∙ formals l j (functions l o) i)
 
 -- names that are all of class 0
-module _ {wide : Bool} {p : Program} {host : List ℕ} (key names : ℕ) (lays : Lays wide p host) (k : Key key) (e : names ≡ names_in host key)
+module _ {wide : Bool} {p : Program} {host : Host} (key names : ℕ) (lays : Lays wide p host) (k : Key key) (e : names ≡ names_in host key)
     (within : difference names (names_in host inside) ≡ 0) where
   named-every : (n : ℕ) → Memᴰ n (names_of p.sheet key) → Memᴰ n (names_of p.sheet inside)
   named-every n h =

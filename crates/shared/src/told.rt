@@ -1,5 +1,5 @@
 // What the labels of a set tell, as much of it as is not held already.
-ghost use Rattle.std.specs.Prelude.{◌≡◌, true, ℕ, ◌≤◌, ◌<◌, length};
+ghost use Rattle.std.specs.Prelude.{◌≡◌, true, ℕ, List, ◌≤◌, ◌<◌, length};
 ghost use Rattle.words.specs.Words.{difference};
 ghost use Rattle.rows.specs.Edition.{labels, word_count};
 ghost use Rattle.rows.specs.Row.{thrown, number, row_count};
@@ -7,12 +7,36 @@ ghost use Rattle.layout.specs.Key.{inside, Key};
 ghost use Rattle.program.specs.Program.{Program};
 ghost use Rattle.sets.specs.Value.{value};
 ghost use Rattle.uses.specs.Use.{Lent};
-ghost use Rattle.kept.specs.Promise.{chains, throws, handed, under, Tellings};
-ghost use Rattle.host.specs.Lays.{names_in, Lays, ReturnsOf, Functions, arrays};
-ghost use Rattle.shared.specs.Apply.{Applies, gathering};
+ghost use Rattle.kept.specs.Pairs.{pair_count};
+ghost use Rattle.kept.specs.Promise.{Slot, chains, throws, handed, under, slot_of, Union, Tellings};
+ghost use Rattle.host.specs.Lays.{names_in, Lays, ReturnsOf, Functions};
+ghost use Rattle.shared.specs.Apply.{Applies, gathering, Reads};
 
+use host::Host;
+use kept::Asked;
 use rows::{Label, Var};
 use sets::Set;
+
+// What the labels of s tell, by a pair: what stands there already, and the rest as `read` has it.
+fn told<F: FnOnce(Set) -> Set>(
+    wide: bool,
+    keeps: &mut [u64; 256],
+    pair: usize,
+    s: Set,
+    have: Set,
+    read: F,
+) -> Set
+    requires { F.IsAlwaysCallable read }
+    ensures { (p : Program) (slot : Slot) (t : List ℕ) → Union slot → (pair < pair_count wide → slot_of pair ≡ slot) → Reads wide p slot t (value wide s) (F.post read) → Tellings wide p slot t (value wide s) (value wide have) (value wide result) keeps.old keeps.new }
+{
+    match kept::ask(keeps, wide, pair, s, have) {
+        Asked::Told(all) => all,
+        Asked::Open(rest) => {
+            let more = read(rest.labels);
+            kept::answer(keeps, wide, pair, s, rest, more)
+        }
+    }
+}
 
 // The pair for the chains of what a variable holds.
 fn chain_pair(v: Var) -> usize
@@ -26,15 +50,10 @@ pub fn told_chains(t: &[u64], wide: bool, keeps: &mut [u64; 256], v: Var, s: Set
     requires { word_count wide ≤ length t.now }
     ensures { (p : Program) → Tellings wide p chains t.now (value wide s) 0 (value wide result) keeps.old keeps.new }
 {
-    let pair = chain_pair(v);
-    let none = sets::none(wide);
-    let asked = kept::ask(keeps, wide, pair, s, none);
-    if asked.known {
-        return asked.base;
-    }
-    let rest = asked.rest;
-    let more = uses::gather(t, wide, Label(0).chain(wide), rest);
-    kept::answer(keeps, wide, pair, s, asked, more)
+    let first = Label(0).chain(wide);
+    told(wide, keeps, chain_pair(v), s, sets::none(wide), |rest| {
+        uses::gather(t, wide, first, rest)
+    })
 }
 
 // What the functions of s throw.
@@ -42,21 +61,17 @@ fn told_throws(t: &[u64], wide: bool, keeps: &mut [u64; 256], s: Set, have: Set)
     requires { word_count wide ≤ length t.now }
     ensures { (p : Program) → Tellings wide p throws t.now (value wide s) (value wide have) (value wide result) keeps.old keeps.new }
 {
-    let pair = kept::THROWS;
-    let asked = kept::ask(keeps, wide, pair, s, have);
-    if asked.known {
-        return asked.base;
-    }
-    let rest = asked.rest;
-    let more = uses::gather(t, wide, Label(0).thrown(wide), rest);
-    kept::answer(keeps, wide, pair, s, asked, more)
+    let first = Label(0).thrown(wide);
+    told(wide, keeps, kept::THROWS, s, have, |rest| {
+        uses::gather(t, wide, first, rest)
+    })
 }
 
 // Every name of the word is of class 0, which is so in every file that can be read.
-pub fn of_class_zero(host: &[u64; host::WORDS], names: u64) -> bool
+pub fn of_class_zero(host: &Host, names: u64) -> bool
     ensures { result ≡ true → difference names (names_in host.now inside) ≡ 0 }
 {
-    words::without(names, host::names(host, layout::INSIDE)) == 0
+    words::without(names, host.names(layout::INSIDE)) == 0
 }
 
 // The properties of the labels of s under a key for which there is no room for a pair. Left out are labels of which the pair for class 0 says that all their
@@ -64,7 +79,7 @@ pub fn of_class_zero(host: &[u64; host::WORDS], names: u64) -> bool
 fn told_unkept(
     t: &[u64],
     wide: bool,
-    host: &[u64; host::WORDS],
+    host: &Host,
     keeps: &[u64; 256],
     names: u64,
     s: Set,
@@ -73,18 +88,19 @@ fn told_unkept(
     requires { word_count wide ≤ length t.now }
     ensures { (p : Program) (key : ℕ) → Lays wide p host.now → Key key → names ≡ names_in host.now key → Tellings wide p (under key) t.now (value wide s) (value wide have) (value wide result) keeps.now keeps.now }
 {
-    if of_class_zero(host, names) {
-        let rest = kept::spare(keeps, wide, kept::UNDER, s, have);
-        return uses::gather_under(t, wide, names, rest);
-    }
-    uses::gather_under(t, wide, names, s)
+    let rest = if of_class_zero(host, names) {
+        kept::spare(keeps, wide, kept::UNDER, s, have)
+    } else {
+        s
+    };
+    uses::gather_under(t, wide, names, rest)
 }
 
 // The properties of the labels of s under a key.
 pub fn told_under(
     t: &[u64],
     wide: bool,
-    host: &[u64; host::WORDS],
+    host: &Host,
     keeps: &mut [u64; 256],
     key: u8,
     s: Set,
@@ -93,51 +109,33 @@ pub fn told_under(
     requires { (word_count wide ≤ length t.now) × Key key }
     ensures { (p : Program) → Lays wide p host.now → Tellings wide p (under key) t.now (value wide s) (value wide have) (value wide result) keeps.old keeps.new }
 {
-    let pair = kept::under_pair(key);
-    let names = host::names(host, key);
-    if !kept::is_kept(wide, pair) {
+    let names = host.names(key);
+    let Some(pair) = kept::under_pair(wide, key) else {
         return told_unkept(t, wide, host, keeps, names, s, have);
-    }
-    let asked = kept::ask(keeps, wide, pair, s, have);
-    if asked.known {
-        return asked.base;
-    }
-    let rest = asked.rest;
-    let more = uses::gather_under(t, wide, names, rest);
-    kept::answer(keeps, wide, pair, s, asked, more)
+    };
+    told(wide, keeps, pair, s, have, |rest| {
+        uses::gather_under(t, wide, names, rest)
+    })
 }
 
 // What the functions of s hand back.
-fn told_handed(
-    t: &[u64],
-    wide: bool,
-    first: &[u64; 256],
-    second: &[u64; 256],
-    third: &[u64; 256],
-    fourth: &[u64; 256],
-    keeps: &mut [u64; 256],
-    s: Set,
-    have: Set,
-) -> Set
+fn told_handed(t: &[u64], wide: bool, host: &Host, keeps: &mut [u64; 256], s: Set, have: Set) -> Set
     requires { word_count wide ≤ length t.now }
-    ensures { (p : Program) → ReturnsOf p (arrays first.now second.now third.now fourth.now) → Functions p (value wide s) → Tellings wide p handed t.now (value wide s) (value wide have) (value wide result) keeps.old keeps.new }
+    ensures { (p : Program) → ReturnsOf p host.now.returns → Functions p (value wide s) → Tellings wide p handed t.now (value wide s) (value wide have) (value wide result) keeps.old keeps.new }
 {
-    let pair = kept::HANDED;
-    let asked = kept::ask(keeps, wide, pair, s, have);
-    if asked.known {
-        return asked.base;
-    }
-    let rest = asked.rest;
-    let more = host::handed::gather_handed(t, wide, first, second, third, fourth, rest);
-    kept::answer(keeps, wide, pair, s, asked, more)
+    let returns = &host.returns;
+    told(wide, keeps, kept::HANDED, s, have, |rest| {
+        returns.gather_handed(t, wide, rest)
+    })
 }
 
-// What the labels of s hold under a key, into row y.
+// What the labels of s hold under a key, into row y. This and the two below have a row read, a telling and a join in common: a function that is handed the telling
+// would hand it the table, the pairs and the row, and be no plainer.
 pub fn look_up(
     t: &mut [u64],
     o: usize,
     wide: bool,
-    host: &[u64; host::WORDS],
+    host: &Host,
     keeps: &mut [u64; 256],
     y: usize,
     key: u8,
@@ -174,19 +172,16 @@ pub fn hand_back(
     t: &mut [u64],
     o: usize,
     wide: bool,
-    first: &[u64; 256],
-    second: &[u64; 256],
-    third: &[u64; 256],
-    fourth: &[u64; 256],
+    host: &Host,
     keeps: &mut [u64; 256],
     y: Var,
     s: Set,
 ) -> bool
     requires { Lent wide o (length t.old) }
-    ensures { (p : Program) → ReturnsOf p (arrays first.now second.now third.now fourth.now) → Functions p (value wide s) → Applies wide o p (gathering wide p y.0 handed (value wide s)) t.old keeps.old t.new keeps.new result }
+    ensures { (p : Program) → ReturnsOf p host.now.returns → Functions p (value wide s) → Applies wide o p (gathering wide p y.0 handed (value wide s)) t.old keeps.old t.new keeps.new result }
 {
     let r = y.row();
     let have = lent::row(t, o, wide, r);
-    let more = told_handed(t, wide, first, second, third, fourth, keeps, s, have);
+    let more = told_handed(t, wide, host, keeps, s, have);
     lent::join(t, o, wide, r, more)
 }

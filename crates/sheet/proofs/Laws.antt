@@ -1,20 +1,18 @@
--- Laws of the code's sheet: the entries of the edition's labels, what is refused of a record and what is handed back, functions that are missing.
+-- Laws of the code's sheet: the entries of the edition's labels, the part of a body that is copied, functions that are missing.
 -- Assumes nothing.
-use mathlib.Core.Path.{◌≡◌, sym, ap, ◌∙◌}
-use mathlib.Core.List.{List}
-use mathlib.Core.Bool.{Bool, true, false, not, ◌&&◌}
+use mathlib.Core.Path.{◌≡◌, refl, sym, ap, ◌∙◌}
+use mathlib.Core.List.{List, [], ◌∷◌}
+use mathlib.Core.Bool.{Bool, true, false, ◌&&◌, ◌||◌}
 use Prim.Native.Nat.{ℕ, zero, suc, ◌+◌, ◌-◌, ◌*◌, ◌≤◌, ◌<◌}
-use native.Mathlib.Numerals.{add-one}
 use native.Mathlib.Omega.{arith}
-use lib.ListN.{length, get_or, set, take, drop, length-take, length-drop, drop_of_length-le}
-use lib.Seq.{take_all, length-take-le, take-set-lt, get_or-take, paste, paste-zero, paste-suc, drop-cons}
+use lib.ListN.{length, get_or, set, take, drop, length-take, length-drop}
+use lib.Seq.{take_all, length-take-le, take-set-lt, get_or-take, paste, paste-zero, paste-suc}
 use lib.Dec.{eqb}
-use borrow.Author.Tests.{eq-eqb, ne_eqb}
+use Rattle.std.specs.Prelude.{◌==◌}
+use Rattle.std.specs.List.{list_any, zip}
 use Rattle.rows.specs.Edition.{labels}
 use Rattle.format.specs.Sheet as format
-use Rattle.format.specs.Records.{field, misnamed, twice, after, whole_refusal}
 use Rattle.format.specs.Reading.{lacking}
-use Rattle.sheet.specs.View.{handed_back}
 
 -- ---- the entries of the first n labels, of which the code knows label l as the index i
 
@@ -57,49 +55,14 @@ unfolding format.start
 begun true none e = rw e
 begun false none e = rw e
 
--- ---- what is refused of a record, and the sheet that is handed back
-
-module _ (s : format.Sheet) (k : ℕ) (b : List ℕ) where
-  pub refused : (n : ℕ) → eqb n 0 ≡ false → whole_refusal s k b ≡ n → (n ≡ whole_refusal s k b) × (s ≡ handed_back s k b)
-  refused n h e = (sym e, rw (e, h))
-
-  pub passed : (next : format.Sheet) → whole_refusal s k b ≡ 0 → next ≡ after s k b → (0 ≡ whole_refusal s k b) × (next ≡ handed_back s k b)
-  passed next e f = (sym e, rw e f)
-
--- a variable record, which may be refused for two reasons
-module _ (s : format.Sheet) (b : List ℕ) where
-  -- its owner and its name do not go together
-  abbrev pub badly : Bool
-  badly = not (eqb (field b 1) 0) && not (eqb (field b 2) 255)
-
-  pub variable-misnamed : badly ≡ true → whole_refusal s 5 b ≡ 5
-  unfolding whole_refusal misnamed
-  variable-misnamed e = rw e
-
-  pub variable-twice : badly ≡ false → (format.owner_of s (field b 0) ≡ 1 → ⊥) → whole_refusal s 5 b ≡ 6
-  unfolding whole_refusal misnamed twice
-  variable-twice e h = rw (e, ne_eqb _ _ h)
-
-  pub variable-once : badly ≡ false → format.owner_of s (field b 0) ≡ 1 → whole_refusal s 5 b ≡ 0
-  unfolding whole_refusal misnamed twice
-  variable-once e h = rw (e, eq-eqb _ _ h)
-
 -- the part of a body that the code hands on
 pub part-is : (b : List ℕ) → take (length b - 1) (drop 1 b) ≡ drop 1 b
 part-is b = let e = length-drop 1 b in take_all (length b - 1) (drop 1 b) (omega arith)
 
--- ---- functions that are missing, from label j on
+-- ---- functions that are missing
 
-pub lacking-here : (ts ds : List ℕ) (j : ℕ) → j < length ts → j < length ds → (eqb (get_or ts j 0) 2 && eqb (get_or ds j 0) 0) ≡ true
-    → lacking (drop j ts) (drop j ds) ≡ true
+pub lacking_any : (ts ds : List ℕ) → lacking ts ds ≡ list_any (λ label. (label.0 == 2) && (label.1 == 0)) (zip ts ds)
 unfolding lacking
-lacking-here ts ds j h k e = rw (drop-cons ts j 0 h, drop-cons ds j 0 k, e)
-
-pub lacking-on : (ts ds : List ℕ) (j : ℕ) → j < length ts → j < length ds → (eqb (get_or ts j 0) 2 && eqb (get_or ds j 0) 0) ≡ false
-    → lacking (drop j ts) (drop j ds) ≡ lacking (drop (j + 1) ts) (drop (j + 1) ds)
-unfolding lacking
-lacking-on ts ds j h k e = rw (add-one, drop-cons ts j 0 h, drop-cons ds j 0 k, e)
-
-pub lacking-end : (ts ds : List ℕ) (j : ℕ) → length ts ≤ j → lacking (drop j ts) (drop j ds) ≡ false
-unfolding lacking
-lacking-end ts ds j h = rw (drop_of_length-le ts h)
+lacking_any [] ds = refl
+lacking_any (t ∷ ts) [] = refl
+lacking_any (t ∷ ts) (d ∷ ds) = ap (λ (r : Bool). (eqb t 2 && eqb d 0) || r) (lacking_any ts ds)

@@ -2,16 +2,20 @@
 // both editions: its arrays are those of 256 labels, and where `wide` is false the entries of the first 64 count.
 #![tactic(auto)]
 
-ghost use Rattle.std.specs.Prelude.{◌≡◌, not, ◌*◌, ◌<◌, get_or, length};
-ghost use Rattle.std.proofs.Math.Seq.{paste};
+ghost use Rattle.std.specs.Prelude.{◌≡◌, not, ◌==◌, ◌&&◌, ◌<◌, get_or, length};
+ghost use Rattle.std.specs.List.{list_any, zip};
 ghost use Rattle.rows.specs.Edition.{labels};
 ghost use Rattle.layout.specs.Layout.{fields_of};
+ghost use Rattle.layout.specs.Kinds.{number_of};
 ghost use Rattle.format.specs.Sheet.{start};
 ghost use Rattle.format.specs.Fields.{Fits};
 ghost use Rattle.format.specs.Records.{whole_refusal};
 ghost use Rattle.format.specs.Reading.{lacking};
+ghost use Rattle.fields.specs.Judging.{number_in};
 ghost use Rattle.sheet.specs.View.{sheet_of, handed_back, declaring};
 
+use answer::Refusal;
+use layout::Kind;
 use rows::Label;
 use sets::Set;
 
@@ -27,7 +31,7 @@ const SEVEN: usize = 7;
 // Seven for each label.
 const FORMALS: usize = 1792;
 
-// No class has this number.
+// No class has this number. The definition's sheet has it in the place of a profile too, so it is no Option.
 const NO_PROFILE: u8 = 255;
 
 #[derive(Clone, Copy)]
@@ -50,13 +54,6 @@ pub struct Sheet {
     pub forbidden: Set,
     // the class of names that guests are held to, NO_PROFILE where no record says so
     pub profile: u8,
-}
-
-// The next sheet, or the sheet as it was and the number of the refusal; 0 is ok.
-#[derive(Clone, Copy)]
-pub struct Taken {
-    pub sheet: Sheet,
-    pub refusal: u8,
 }
 
 // The sheet before the first record.
@@ -88,186 +85,135 @@ pub fn fresh(wide: bool) -> Sheet
     }
 }
 
-// The first kind of record that declares nothing.
-const GRANT: u8 = 6;
-
-// The kind of the record that holds guests to a class of names.
-const PROFILE: u8 = 9;
-
 // Whether records of this kind declare something. The others leave the sheet as it is, and it need not be copied for them.
-pub fn declares(kind: u8) -> bool
-    ensures { result ≡ declaring kind }
+pub fn declares(kind: Kind) -> bool
+    ensures { result ≡ declaring (number_of kind) }
 {
-    fields::either(kind < GRANT, kind == PROFILE)
+    matches!(
+        kind,
+        Kind::Name | Kind::Label | Kind::Forbid | Kind::Function | Kind::Variable | Kind::Profile
+    )
 }
 
-// The formals with the seven variables of function l. (Behind a reference an array does not tell its length, so the caller does.)
-fn fill(formals: &mut [u8; FORMALS], l: usize, seven: &[u8])
-    requires { (l < 256) × (length formals.old ≡ 7 * 256) × (length seven.now ≡ 7) }
-    ensures { formals.new ≡ paste formals.old (7 * l) seven.now 7 }
+// A label's type is 2 and its function is not known.
+fn lacks(types: &[u8], defined: &[u8]) -> bool
+    ensures { result ≡ list_any (λ label. (label.0 == 2) && (label.1 == 0)) (zip types.now defined.now) }
 {
-    let at = SEVEN * l;
-    for j in 0..SEVEN {
-        formals[at + j] = seven[j];
-    }
+    types.iter().zip(defined).any(|(t, d)| *t == 2 && *d == 0)
 }
 
+// Each method gives the next sheet with ok, or the sheet as it was with the refusal.
+#[tactic(auto, unfolding(format::specs::Records::whole_refusal, format::specs::Records::misnamed, format::specs::Records::twice, format::specs::Records::after))]
 impl Sheet {
     // Kind 1: n, class mask.
-    fn take_name(mut self, wide: bool, body: &[u8]) -> Taken
+    fn take_name(mut self, wide: bool, body: &[u8]) -> (Self, Result<(), Refusal>)
         requires { (length body.now ≡ 2) × (get_or body.now 0 0 < 32) }
-        ensures refusal_value { result.refusal ≡ whole_refusal (sheet_of wide self) 1 body.now }
-        ensures sheet_value { sheet_of wide result.sheet ≡ handed_back (sheet_of wide self) 1 body.now }
+        ensures refusal_value { number_in result.1 ≡ whole_refusal (sheet_of wide self) 1 body.now }
+        ensures sheet_value { sheet_of wide result.0 ≡ handed_back (sheet_of wide self) 1 body.now }
     {
-        let n = fields::index(body[0]);
+        let n = usize::from(body[0]);
         if self.masks[n] != 0 {
-            return Taken {
-                sheet: self,
-                refusal: 6,
-            };
+            return (self, Err(Refusal::DeclaredTwice));
         }
         self.masks[n] = body[1];
-        Taken {
-            sheet: self,
-            refusal: 0,
-        }
+        (self, Ok(()))
     }
 
     // Kind 2: l, type, flag.
-    fn take_label(mut self, wide: bool, body: &[u8]) -> Taken
+    fn take_label(mut self, wide: bool, body: &[u8]) -> (Self, Result<(), Refusal>)
         requires { (length body.now ≡ 3) × (get_or body.now 0 0 < labels wide) }
-        ensures refusal_value { result.refusal ≡ whole_refusal (sheet_of wide self) 2 body.now }
-        ensures sheet_value { sheet_of wide result.sheet ≡ handed_back (sheet_of wide self) 2 body.now }
+        ensures refusal_value { number_in result.1 ≡ whole_refusal (sheet_of wide self) 2 body.now }
+        ensures sheet_value { sheet_of wide result.0 ≡ handed_back (sheet_of wide self) 2 body.now }
     {
-        let l = fields::index(body[0]);
+        let l = usize::from(body[0]);
         if self.types[l] != 0 {
-            return Taken {
-                sheet: self,
-                refusal: 6,
-            };
+            return (self, Err(Refusal::DeclaredTwice));
         }
         self.types[l] = body[1];
         self.flags[l] = body[2];
-        Taken {
-            sheet: self,
-            refusal: 0,
-        }
+        (self, Ok(()))
     }
 
     // Kind 3: l.
-    fn take_forbid(mut self, wide: bool, body: &[u8]) -> Taken
+    fn take_forbid(mut self, wide: bool, body: &[u8]) -> (Self, Result<(), Refusal>)
         requires { (length body.now ≡ 1) × (get_or body.now 0 0 < labels wide) }
-        ensures refusal_value { result.refusal ≡ whole_refusal (sheet_of wide self) 3 body.now }
-        ensures sheet_value { sheet_of wide result.sheet ≡ handed_back (sheet_of wide self) 3 body.now }
+        ensures refusal_value { number_in result.1 ≡ whole_refusal (sheet_of wide self) 3 body.now }
+        ensures sheet_value { sheet_of wide result.0 ≡ handed_back (sheet_of wide self) 3 body.now }
     {
-        let l = body[0];
-        let forbidden = self.forbidden;
-        let more = sets::union(wide, forbidden, sets::single(wide, Label(l)));
-        self.forbidden = more;
-        Taken {
-            sheet: self,
-            refusal: 0,
-        }
+        self.forbidden = sets::union(wide, self.forbidden, sets::single(wide, Label(body[0])));
+        (self, Ok(()))
     }
 
     // Kind 4: l, this variable, six formals.
-    fn take_function(mut self, wide: bool, body: &[u8]) -> Taken
+    fn take_function(mut self, wide: bool, body: &[u8]) -> (Self, Result<(), Refusal>)
         requires { (length body.now ≡ 8) × (get_or body.now 0 0 < labels wide) }
-        ensures refusal_value { result.refusal ≡ whole_refusal (sheet_of wide self) 4 body.now }
-        ensures sheet_value { sheet_of wide result.sheet ≡ handed_back (sheet_of wide self) 4 body.now }
+        ensures refusal_value { number_in result.1 ≡ whole_refusal (sheet_of wide self) 4 body.now }
+        ensures sheet_value { sheet_of wide result.0 ≡ handed_back (sheet_of wide self) 4 body.now }
     {
-        let l = fields::index(body[0]);
+        let l = usize::from(body[0]);
         if self.defined[l] != 0 {
-            return Taken {
-                sheet: self,
-                refusal: 6,
-            };
+            return (self, Err(Refusal::DeclaredTwice));
         }
         self.defined[l] = 1;
-        fill(&mut self.formals, l, &body[1..]);
-        Taken {
-            sheet: self,
-            refusal: 0,
-        }
+        let first = SEVEN * l;
+        self.formals[first..first + SEVEN].copy_from_slice(&body[1..]);
+        (self, Ok(()))
     }
 
     // Kind 5: v, owner scope, name.
-    fn take_variable(mut self, wide: bool, body: &[u8]) -> Taken
+    fn take_variable(mut self, wide: bool, body: &[u8]) -> (Self, Result<(), Refusal>)
         requires { (length body.now ≡ 3) × (get_or body.now 0 0 < 256) }
-        ensures refusal_value { result.refusal ≡ whole_refusal (sheet_of wide self) 5 body.now }
-        ensures sheet_value { sheet_of wide result.sheet ≡ handed_back (sheet_of wide self) 5 body.now }
+        ensures refusal_value { number_in result.1 ≡ whole_refusal (sheet_of wide self) 5 body.now }
+        ensures sheet_value { sheet_of wide result.0 ≡ handed_back (sheet_of wide self) 5 body.now }
     {
-        let v = fields::index(body[0]);
-        let owner = body[1];
-        let name = body[2];
-        if fields::both(owner != 0, name != 255) {
-            return Taken {
-                sheet: self,
-                refusal: 5,
-            };
+        let v = usize::from(body[0]);
+        if body[1] != 0 && body[2] != 255 {
+            return (self, Err(Refusal::BadValue));
         }
-        if fields::owner_of(&self.owners, body[0]) != 1 {
-            return Taken {
-                sheet: self,
-                refusal: 6,
-            };
+        if self.owners[v] != 1 {
+            return (self, Err(Refusal::DeclaredTwice));
         }
-        self.owners[v] = owner;
-        self.names[v] = name;
-        Taken {
-            sheet: self,
-            refusal: 0,
-        }
+        self.owners[v] = body[1];
+        self.names[v] = body[2];
+        (self, Ok(()))
     }
 
     // Kind 9: c.
-    fn take_profile(mut self, wide: bool, body: &[u8]) -> Taken
+    fn take_profile(mut self, wide: bool, body: &[u8]) -> (Self, Result<(), Refusal>)
         requires { length body.now ≡ 1 }
-        ensures refusal_value { result.refusal ≡ whole_refusal (sheet_of wide self) 9 body.now }
-        ensures sheet_value { sheet_of wide result.sheet ≡ handed_back (sheet_of wide self) 9 body.now }
+        ensures refusal_value { number_in result.1 ≡ whole_refusal (sheet_of wide self) 9 body.now }
+        ensures sheet_value { sheet_of wide result.0 ≡ handed_back (sheet_of wide self) 9 body.now }
     {
         if self.profile != NO_PROFILE {
-            return Taken {
-                sheet: self,
-                refusal: 6,
-            };
+            return (self, Err(Refusal::DeclaredTwice));
         }
         self.profile = body[0];
-        Taken {
-            sheet: self,
-            refusal: 0,
-        }
+        (self, Ok(()))
     }
 
     // One record, whose fields are good: kinds 1 to 5 and 9 declare something, any other leaves the sheet as it is.
-    pub fn take(self, wide: bool, kind: u8, body: &[u8]) -> Taken
-        requires { Fits (labels wide) (sheet_of wide self) (fields_of kind) body.now }
-        ensures refusal_value { result.refusal ≡ whole_refusal (sheet_of wide self) kind body.now }
-        ensures sheet_value { sheet_of wide result.sheet ≡ handed_back (sheet_of wide self) kind body.now }
+    pub fn take(self, wide: bool, kind: Kind, body: &[u8]) -> (Self, Result<(), Refusal>)
+        requires { Fits (labels wide) (sheet_of wide self) (fields_of (number_of kind)) body.now }
+        ensures refusal_value { number_in result.1 ≡ whole_refusal (sheet_of wide self) (number_of kind) body.now }
+        ensures sheet_value { sheet_of wide result.0 ≡ handed_back (sheet_of wide self) (number_of kind) body.now }
     {
         match kind {
-            1 => self.take_name(wide, body),
-            2 => self.take_label(wide, body),
-            3 => self.take_forbid(wide, body),
-            4 => self.take_function(wide, body),
-            5 => self.take_variable(wide, body),
-            9 => self.take_profile(wide, body),
-            _ => Taken {
-                sheet: self,
-                refusal: 0,
-            },
+            Kind::Name => self.take_name(wide, body),
+            Kind::Label => self.take_label(wide, body),
+            Kind::Forbid => self.take_forbid(wide, body),
+            Kind::Function => self.take_function(wide, body),
+            Kind::Variable => self.take_variable(wide, body),
+            Kind::Profile => self.take_profile(wide, body),
+            _ => (self, Ok(())),
         }
     }
 
     // Every label of type 2 has its function.
-    pub fn is_complete(self, wide: bool) -> bool
-        ensures { result ≡ not (lacking (sheet_of wide self).types (sheet_of wide self).defined) }
+    #[tactic(auto, using(crate::proofs::Laws::lacking_any))]
+    pub fn is_complete(&self, wide: bool) -> bool
+        ensures { result ≡ not (lacking (sheet_of wide self.now).types (sheet_of wide self.now).defined) }
     {
-        for l in 0..rows::labels(wide) {
-            if fields::both(self.types[l] == 2, self.defined[l] == 0) {
-                return false;
-            }
-        }
-        true
+        let n = rows::labels(wide);
+        !lacks(&self.types[..n], &self.defined[..n])
     }
 }

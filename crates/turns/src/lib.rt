@@ -1,16 +1,24 @@
 // Between whole passes: the search names a record, its rules are used, and what grew leads on.
 #![tactic(auto)]
 
-ghost use Rattle.std.specs.Prelude.{◌≡◌, true, ◌<◌, length};
+ghost use Rattle.std.specs.Prelude.{length};
 ghost use Rattle.rows.specs.Edition.{labels};
 ghost use Rattle.format.specs.Reading.{Readable};
 ghost use Rattle.uses.specs.Use.{Lent};
-ghost use Rattle.host.specs.Lays.{arrays};
-ghost use Rattle.passes.specs.Order.{Known};
+ghost use Rattle.host.specs.Lays.{Known};
 ghost use Rattle.program.specs.Program.{program_in};
 ghost use Rattle.turns.specs.Steps.{StepsFor};
 
-use crate::single::{forget_if, grown_at, use_at, use_part, whole_at};
+use crate::single::use_found;
+use growth::rounds::begin_round;
+use growth::sizes::Sizes;
+use growth::written::note_written;
+use host::Host;
+use indexing::index::Index;
+use indexing::notes::Notes;
+use indexing::view::View;
+use linking::past::Past;
+use search::next::Place;
 
 mod single;
 
@@ -27,179 +35,53 @@ pub fn search_on(
     t: &mut [u64],
     wide: bool,
     file: &[u8],
-    host: &[u64; host::WORDS],
-    types: &[u8; 256],
-    formals: &[u8; 1792],
-    first: &[u64; 256],
-    second: &[u64; 256],
-    third: &[u64; 256],
-    fourth: &[u64; 256],
+    host: &Host,
     keeps: &mut [u64; 256],
 )
     requires { Lent wide 0 (length t.old) × Readable (labels wide) file.now }
-    ensures { Known wide (program_in (labels wide) file.now) host.now types.now formals.now (arrays first.now second.now third.now fourth.now) → StepsFor wide file.now t.old keeps.old t.new keeps.new }
+    ensures { Known wide (program_in (labels wide) file.now) host.now → StepsFor wide file.now t.old keeps.old t.new keeps.new }
 {
     if passes < FIRST {
         return;
     }
-    let calls = FIRST < passes;
-    let mut low = [0u64; 256];
-    let mut high = [0u64; 256];
-    let mut index = [0u64; 256];
-    let mut notes = [0u64; 256];
-    let mut links_low = [0u64; 256];
-    let mut links_high = [0u64; 256];
-    let mut queue = [0u16; 1024];
-    let mut recent = [0u16; 512];
-    let mut sizes = [0u16; 512];
-    let mut readers_first = [0u64; 256];
-    let mut readers_second = [0u64; 256];
-    let mut readers_third = [0u64; 256];
-    let mut readers_fourth = [0u64; 256];
-    let mut even = [0u64; 256];
-    let mut odd = [0u64; 256];
-    let mut seen_first = [0u64; 256];
-    let mut seen_second = [0u64; 256];
-    let mut seen_third = [0u64; 256];
-    let mut seen_fourth = [0u64; 256];
-    let mut stored = [0u64; 256];
-    let mut seers = [0u64; 256];
-    indexing::index::index_readers(
-        calls,
+    let mut index = Index::none(FIRST < passes);
+    let mut notes = Notes::nothing();
+    let mut past = Past::nothing();
+    let mut sizes = Sizes::none();
+    let mut place = Place::start();
+    let start = View {
         wide,
-        file,
-        &mut readers_first,
-        &mut readers_second,
-        &mut readers_third,
-        &mut readers_fourth,
-        &mut even,
-        &mut odd,
-    );
-    indexing::index::index_file(
-        calls, wide, file, host, &mut low, &mut high, &mut index, &mut notes,
-    );
-    indexing::seen::see_all(
-        t,
-        wide,
-        &mut seen_first,
-        &mut seen_second,
-        &mut seen_third,
-        &mut seen_fourth,
-    );
-    let mut on = true;
-    let mut turns: usize = 0;
-    while on {
-        search::readers::begin_readers(
-            &readers_first,
-            &readers_second,
-            &readers_third,
-            &readers_fourth,
-            &even,
-            &odd,
-            &mut notes,
-        );
-        search::readers::begin_part(
-            t,
+        t: &*t,
+        file: &*file,
+        host: &*host,
+    };
+    index.enter_all(&start);
+    notes.seen.see_all(&start);
+    'turns: for _ in 0..MOST {
+        let before = View {
             wide,
-            &mut seen_first,
-            &mut seen_second,
-            &mut seen_third,
-            &mut seen_fourth,
-            &mut notes,
-        );
-        let at = search::next::next(
-            wide, t, file, host, &low, &high, &index, &queue, &stored, &mut seers, &mut notes,
-        );
-        let part = search::readers::part_of(
-            t,
-            wide,
-            file,
-            &seen_first,
-            &seen_second,
-            &seen_third,
-            &seen_fourth,
-            &notes,
-            at,
-        );
-        let in_part = use_part(t, wide, file, host, part, at);
-        let as_whole = use_at(
-            t,
-            wide,
-            file,
-            host,
-            types,
-            formals,
-            first,
-            second,
-            third,
-            fourth,
-            keeps,
-            whole_at(part, at),
-        );
-        let grew = in_part | as_whole;
-        forget_if(grew, keeps, wide);
-        let grown = grown_at(grew, at);
-        growth::written::note_written(
-            wide,
-            t,
-            file,
-            host,
-            formals,
-            &seen_first,
-            &seen_second,
-            &seen_third,
-            &seen_fourth,
-            &mut stored,
-            &mut notes,
-            grown,
-        );
-        let to = linking::ends::ends_read(
-            wide, t, file, host, first, second, third, fourth, &notes, grown,
-        );
-        linking::links::note_grown(
-            wide,
-            t,
-            file,
-            host,
-            formals,
-            &mut links_low,
-            &mut links_high,
-            &mut queue,
-            &mut recent,
-            &mut notes,
-            grown,
-            to,
-        );
-        let over = growth::rounds::is_last(&notes);
-        growth::written::note_every_variable(
-            t,
-            wide,
-            &seen_first,
-            &seen_second,
-            &seen_third,
-            &seen_fourth,
-            &mut notes,
-        );
-        growth::rounds::begin_round(
-            wide,
-            t,
-            first,
-            second,
-            third,
-            fourth,
-            &mut sizes,
-            &mut stored,
-            &mut seers,
-            &mut notes,
-        );
-        turns += 1;
-        on = goes_on(over, turns);
+            t: &*t,
+            file: &*file,
+            host: &*host,
+        };
+        if let Some(found) = place.next(&before, &index, &mut notes) {
+            let part = place.part(&before, &notes, found);
+            if use_found(t, wide, file, host, keeps, found.position, part) {
+                let after = View {
+                    wide,
+                    t: &*t,
+                    file: &*file,
+                    host: &*host,
+                };
+                note_written(&after, &mut notes, found.position);
+                past.note_grown(&after, &index, &mut notes, found);
+            }
+        } else if notes.due.is_empty() {
+            if notes.round.is_last(index.calls) {
+                break 'turns;
+            }
+            begin_round(&before, &index, &mut sizes, &mut notes);
+            place.begin_round(&index, &notes);
+        }
     }
-}
-
-// Whether the loop goes on.
-fn goes_on(over: bool, turns: usize) -> bool
-    ensures { result ≡ true → turns < 100000000 }
-{
-    if over { false } else { turns < MOST }
 }

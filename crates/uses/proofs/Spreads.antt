@@ -57,8 +57,8 @@ pub record Spreading (wide : Bool) (o : ℕ) (G : ℕ → ℕ → Type 0) (s res
   pub shrinks : (m : ℕ) → On least m → On start m
 
 module _ {wide : Bool} {o : ℕ} {G : ℕ → ℕ → Type 0} {s x start : ℕ} where
-  pub spreading-start : {t : List ℕ} → Spreading wide o G s s x start t t false start
-  spreading-start = record { looped = looped-start; held = λ l h. inl h; shrinks = λ m h. h }
+  pub spreading-start : {rest : ℕ} {t : List ℕ} → rest ≡ s → Spreading wide o G s rest x start t t false start
+  spreading-start e = record { looped = looped-start e; held = λ l h. inl (rw e h); shrinks = λ m h. h }
 
   pub spreading-next : {rest l after b least less : ℕ} {t u v : List ℕ} {a g : Bool} → Apart wide o → Taken b rest l after
       → SpreadTo wide o (G l) x u v g less → ((m : ℕ) → On less m → On least m) → Spreading wide o G s rest x start t u a least → Spreading wide o G s after x start t v (a || g) less

@@ -34,9 +34,6 @@ pub record Turn (F : Table → ℕ → ℕ → Type 0) (t : Table) (l all next :
   pub told : (m : ℕ) → F t l m → On next m
 
 module _ {F : Table → ℕ → ℕ → Type 0} {t : Table} {s start : ℕ} where
-  pub adding-start : Adding F t s start s start
-  adding-start = record { left = λ l h. h; source = λ m h. inl h; keeps = λ m h. h; done = λ l h. inl h }
-
   pub adding-next : {rest all k l after next : ℕ} → Taken k rest l after → Turn F t l all next → Adding F t s start rest all → Adding F t s start after next
   adding-next {rest} {all} {k} {l} {after} {next} taken turn g =
       record {
@@ -136,8 +133,8 @@ pub word_fits : (wide : Bool) (base : ℕ) → base + labels wide ≤ row_count 
 word_fits true base h = omega arith
 word_fits false base h = omega arith
 
-pub words-fit : {wide : Bool} (base : ℕ) → wide ≡ true → base + labels wide ≤ row_count (labels wide) → base + 256 ≤ row_count (labels wide)
-words-fit base e h = rw e (rw e at h)
+pub words_fit : (wide : Bool) (base : ℕ) → wide ≡ true → base + labels wide ≤ row_count (labels wide) → base + 256 ≤ row_count (labels wide)
+words_fit wide base e h = rw e (rw e at h)
 
 pub added-narrow : {t : Table} {wide : Bool} {start r : ℕ} (base : ℕ) (s : Set) → wide ≡ false → s.a < 2 ^ 64 → Added (row_from base) t s.a start r
     → Added (row_from base) t (value wide s) start r
@@ -145,11 +142,14 @@ unfolding value run.number
 added-narrow base s e small a = rw e (added-words base 0 small a added_none)
 
 pub added-wide : {t : Table} {wide : Bool} {start r1 r2 r3 r : ℕ} (base : ℕ) (s : Set) → wide ≡ true → Good s → Added (row_from base) t s.a start r1
-    → Added (row_from (base + 64)) t s.b r1 r2 → Added (row_from (base + 64 + 64)) t s.c r2 r3
-    → Added (row_from (base + 64 + 64 + 64)) t s.d r3 r → Added (row_from base) t (value wide s) start r
+    → Added (row_from (base + 64)) t s.b r1 r2 → Added (row_from (base + 128)) t s.c r2 r3
+    → Added (row_from (base + 192)) t s.d r3 r → Added (row_from base) t (value wide s) start r
 unfolding value run.number
 added-wide base s e small a b c d =
+    let third : base + 128 ≡ base + 64 + 64 = omega arith in
+    let fourth : base + 192 ≡ base + 64 + 64 + 64 = omega arith in
     rw e
     (added-words base (run.number 3 (words_of s) 1) small.0 a
     (added-words (base + 64) (run.number 2 (words_of s) 2) small.1 b
-    (added-words (base + 64 + 64) (run.number 1 (words_of s) 3) small.2 c (added-words (base + 64 + 64 + 64) 0 small.3 d added_none))))
+    (added-words (base + 64 + 64) (run.number 1 (words_of s) 3) small.2 (rw third at c)
+    (added-words (base + 64 + 64 + 64) 0 small.3 (rw fourth at d) added_none))))

@@ -202,8 +202,8 @@ pub was-left : {b rest l after : ℕ} → Taken b rest l after → (m : ℕ) →
 was-left {b} {rest} {l} {after} taken m h = sym (taken.others m (λ e. omega (arith, taken.gone, ap (λ (y : ℕ). bit after y) e))) ∙ h
 
 module _ {wide : Bool} {o s : ℕ} {F : ℕ → Table → ℕ → ℕ → Type 0} {old : List ℕ} where
-  pub looped-start : {t : List ℕ} → Looped wide o s s F old t t false
-  looped-start = record { left = λ m h. h; done = λ m h. inl h; only = start; says = says_nothing }
+  pub looped-start : {rest : ℕ} {t : List ℕ} → rest ≡ s → Looped wide o s rest F old t t false
+  looped-start e = record { left = λ m h. rw e at h; done = λ m h. inl (rw e h); only = start; says = says_nothing }
 
   -- one turn: the use of label l's, the lowest that is left
   pub looped-next : {rest l after b : ℕ} {t u v : List ℕ} {a g : Bool} → Apart wide o → Taken b rest l after → Used wide o (F l) old u v g

@@ -46,33 +46,26 @@ pub fn gather_word(t: &[u64], wide: bool, base: usize, w: u64, start: Set) -> Se
     ensures bound { w < 2 ^ 64 }
 {
     let mut all = start;
-    let mut rest = w;
-    while rest != 0 {
-        let next = words::next(rest);
-        let r = base + next.label;
-        let more = lent::row(t, 0, wide, r);
-        all = sets::union(wide, all, more);
-        rest = next.rest;
+    for l in words::labels(w) {
+        let row = lent::row(t, 0, wide, base + l);
+        all = sets::union(wide, all, row);
     }
     all
 }
 
 // The union of the rows base + l, for each label l of s: word by word, which is faster than asking a set for its next label.
+#[tactic(auto, using(crate::proofs::Unions::word_fits, crate::proofs::Unions::words_fit))]
 pub fn gather(t: &[u64], wide: bool, base: usize, s: Set) -> Set
     requires { (word_count wide ≤ length t.now) × (base + labels wide ≤ row_count (labels wide)) }
     ensures { Gathered (row_from base) (table_of wide t.now) (table_of wide t.now) (value wide s) (value wide result) }
 {
-    let none = sets::none(wide);
-    let first = gather_word(t, wide, base, s.a, none);
-    if wide {
-        let b = base + 64;
-        let second = gather_word(t, wide, b, s.b, first);
-        let c = b + 64;
-        let third = gather_word(t, wide, c, s.c, second);
-        let d = c + 64;
-        return gather_word(t, wide, d, s.d, third);
+    let first = gather_word(t, wide, base, s.a, sets::none(wide));
+    if !wide {
+        return first;
     }
-    first
+    let second = gather_word(t, wide, base + 64, s.b, first);
+    let third = gather_word(t, wide, base + 128, s.c, second);
+    gather_word(t, wide, base + 192, s.d, third)
 }
 
 // The union of the properties of the labels of s, under the names of a word.
@@ -81,14 +74,8 @@ pub fn gather_under(t: &[u64], wide: bool, names: u64, s: Set) -> Set
     ensures { Gathered (under_names names) (table_of wide t.now) (table_of wide t.now) (value wide s) (value wide result) }
 {
     let mut all = sets::none(wide);
-    let mut rest = s;
-    while !sets::is_empty(wide, rest) {
-        let next = sets::next(wide, rest);
-        let l = next.label;
-        let base = l.property(Name(0));
-        all = gather_word(t, wide, base, names, all);
-        let after = next.rest;
-        rest = after;
+    for l in sets::labels(wide, s) {
+        all = gather_word(t, wide, l.property(Name(0)), names, all);
     }
     all
 }

@@ -53,15 +53,10 @@ fn spread_names(
 {
     let mut grew = false;
     let mut least = start;
-    let mut rest = w;
-    while rest != 0 {
-        let next = words::next(rest);
-        let r = base + next.label;
-        let one = spread_one(t, o, wide, r, x, least);
-        let less = one.least;
-        grew = grew | one.grew;
-        least = less;
-        rest = next.rest;
+    for n in words::labels(w) {
+        let one = spread_one(t, o, wide, base + n, x, least);
+        grew |= one.grew;
+        least = one.least;
     }
     Spread { grew, least }
 }
@@ -73,17 +68,10 @@ pub fn spread_under(t: &mut [u64], o: usize, wide: bool, names: u64, s: Set, x: 
 {
     let mut grew = false;
     let mut least = sets::full(wide);
-    let mut rest = s;
-    while !sets::is_empty(wide, rest) {
-        let next = sets::next(wide, rest);
-        let l = next.label;
-        let base = l.property(Name(0));
-        let one = spread_names(t, o, wide, base, names, x, least);
-        let less = one.least;
-        grew = grew | one.grew;
-        least = less;
-        let after = next.rest;
-        rest = after;
+    for l in sets::labels(wide, s) {
+        let one = spread_names(t, o, wide, l.property(Name(0)), names, x, least);
+        grew |= one.grew;
+        least = one.least;
     }
     Spread { grew, least }
 }
@@ -93,8 +81,7 @@ fn formal(formals: &[u8; 1792], f: Label, j: usize) -> Var
     requires { j < 7 }
     ensures { result.0 ≡ get_or formals.now (7 * f.0 + j) 0 }
 {
-    let at = 7 * (f.0 as usize) + j;
-    Var(formals[at])
+    Var(formals[7 * usize::from(f.0) + j])
 }
 
 // The set x, into the j-th input of each function of s.
@@ -112,16 +99,10 @@ pub fn spread_input(
 {
     let mut grew = false;
     let mut least = sets::full(wide);
-    let mut rest = s;
-    while !sets::is_empty(wide, rest) {
-        let next = sets::next(wide, rest);
-        let v = formal(formals, next.label, j);
-        let one = spread_one(t, o, wide, v.row(), x, least);
-        let less = one.least;
-        grew = grew | one.grew;
-        least = less;
-        let after = next.rest;
-        rest = after;
+    for f in sets::labels(wide, s) {
+        let one = spread_one(t, o, wide, formal(formals, f, j).row(), x, least);
+        grew |= one.grew;
+        least = one.least;
     }
     Spread { grew, least }
 }

@@ -16,7 +16,6 @@ use Rattle.rows.specs.Run.{number}
 use Rattle.lent.specs.Table.{place, table_at}
 use Rattle.uses.proofs.Rows.{row_is}
 use Rattle.whole.proofs.Tables.{table-length}
-use Rattle.whole.proofs.Finished.{facts-most}
 
 pub row-most : {n : ℕ} (wide : Bool) (v : ℕ) → n ≡ count_below v (labels wide) → n ≤ 256
 row-most wide v e = omega (arith, count-le v (labels wide), labels-small wide)
@@ -29,8 +28,6 @@ counted_next {v} {n} {all} wide t r h is size e =
     omega (arith, total-next (labels wide) r (table_at wide 0 t) (rw (table-length wide 0 t) h), here)
 
 pub counted-all : {all : ℕ} (wide : Bool) (t : List ℕ) (r : ℕ) → r ≡ row_count (labels wide) → total (labels wide) (take r (table_at wide 0 t)) ≡ all
-    → (all ≡ facts (labels wide) (table_at wide 0 t)) × (all ≤ 2293760)
+    → all ≡ facts (labels wide) (table_at wide 0 t)
 unfolding facts
-counted-all {all} wide t r e is =
-    let same : all ≡ facts (labels wide) (table_at wide 0 t) = sym is ∙ ap (λ (n : ℕ). total (labels wide) (take n (table_at wide 0 t))) e in
-    (same, omega (arith, facts-most wide (table_at wide 0 t)))
+counted-all wide t r e is = sym is ∙ ap (λ (n : ℕ). total (labels wide) (take n (table_at wide 0 t))) e

@@ -16,12 +16,7 @@ pub fn clear(t: &mut [u64], wide: bool)
     requires { word_count wide ≤ length t.old }
     ensures { Cleared wide t.old t.new }
 {
-    let n = rows::word_count(wide);
-    let mut i: usize = 0;
-    while i < n {
-        t[i] = 0;
-        i += 1;
-    }
+    t[..rows::word_count(wide)].fill(0);
 }
 
 // The number of facts in the rows.
@@ -30,13 +25,9 @@ pub fn count(t: &[u64], wide: bool) -> u32
     ensures value { result ≡ facts (labels wide) (table_at wide 0 t.now) }
     ensures bound { result ≤ 2293760 }
 {
-    let n = rows::row_count(wide);
-    let mut all: u32 = 0;
-    let mut r: usize = 0;
-    while r < n {
-        let row = lent::row(t, 0, wide, r);
-        all = all + sets::size(wide, row);
-        r += 1;
+    let mut all = 0;
+    for r in 0..rows::row_count(wide) {
+        all += sets::size(wide, lent::row(t, 0, wide, r));
     }
     all
 }

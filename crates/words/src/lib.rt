@@ -1,11 +1,10 @@
-// A word as a set of labels: bit l of the word says whether label l is in the set. These are the only functions that touch bits,
-// so that no contract above this crate speaks of shifts.
+// A word as a set of labels: bit l of the word says whether label l is in the set. Contracts above this crate speak of sets, and
+// not of shifts.
 #![tactic(auto)]
 
-ghost use Rattle.std.specs.Prelude.{◌≡◌, ◌/◌, ◌^◌, ◌<◌};
+ghost use Rattle.std.specs.Prelude.{◌≡◌, ◌/◌, ◌^◌, ◌<◌, ◌≤◌, eqb};
 ghost use Rattle.std.specs.Int.Bits.{bit_and};
-ghost use Rattle.std.specs.Int.Count.{count_trailing_zeros};
-ghost use Rattle.words.specs.Words.{bit, union, difference, count_below, Taken};
+ghost use Rattle.words.specs.Words.{bit, union, difference, count_below, Steps};
 
 // The set that holds label l alone.
 pub fn single(l: usize) -> u64
@@ -16,6 +15,7 @@ pub fn single(l: usize) -> u64
 }
 
 // The labels of either set.
+#[tactic(auto, unfolding(crate::specs::Words::union))]
 pub fn join(x: u64, y: u64) -> u64
     ensures { result ≡ union x y }
 {
@@ -30,6 +30,7 @@ pub fn meet(x: u64, y: u64) -> u64
 }
 
 // The labels of the first set that are not in the second.
+#[tactic(auto, unfolding(crate::specs::Words::difference))]
 pub fn without(x: u64, y: u64) -> u64
     ensures { result ≡ difference x y }
 {
@@ -44,47 +45,58 @@ pub fn above(x: u64, s: usize) -> u64
     x >> s
 }
 
-// 1 where label l is in the set, else 0.
-pub fn has(x: u64, l: usize) -> u64
+// Whether label l is in the set.
+pub fn contains(x: u64, l: usize) -> bool
     requires { l < 64 }
-    ensures { result ≡ bit x l }
+    ensures { result ≡ eqb (bit x l) 1 }
 {
-    (x >> l) & 1
+    (x >> l) & 1 == 1
 }
 
 // How many labels are in the set.
 pub fn size(x: u64) -> u32
-    ensures { result ≡ count_below x 64 }
+    ensures value { result ≡ count_below x 64 }
+    ensures bound { result ≤ 64 }
 {
     u64::count_ones(x)
 }
 
-fn whole(n: u32) -> usize
-    ensures { result ≡ n }
+// The lowest label of the set, taken from it.
+#[inline]
+pub fn take(x: &mut u64) -> Option<usize>
+    ensures { Steps 64 x.old result x.new }
 {
-    n as usize
+    let all = *x;
+    if all == 0 {
+        return None;
+    }
+    *x = all & (all - 1);
+    Some(u64::trailing_zeros(all) as usize)
 }
 
-// The lowest label in the set, 64 where it is empty.
-pub fn lowest(x: u64) -> u32
-    ensures { result ≡ count_trailing_zeros 64 x }
-{
-    u64::trailing_zeros(x)
-}
-
-// The lowest label of a set, and the set without it: a turn of a loop over the labels.
+// The labels of a set that a loop has still to come to, from the lowest up.
 #[derive(Clone, Copy)]
-pub struct Split {
-    pub label: usize,
-    pub rest: u64,
+pub struct LabelsLeft {
+    rest: u64,
 }
 
-pub fn next(x: u64) -> Split
-    requires { 0 < x }
-    ensures { Taken 64 x result.label result.rest }
+pub fn labels(x: u64) -> LabelsLeft
+    ensures { result.rest ≡ x }
 {
-    Split {
-        label: whole(u64::trailing_zeros(x)),
-        rest: x & (x - 1),
+    LabelsLeft { rest: x }
+}
+
+impl Iterator for LabelsLeft {
+    ghost use Rattle.std.specs.Iterator.{at_most};
+
+    type Item = usize;
+
+    ghost next_gives = { λ s r t. Steps 64 s.rest r t.rest };
+
+    ghost remaining = { λ s. at_most s.rest };
+
+    #[inline]
+    fn next(&mut self) -> Option<usize> {
+        take(&mut self.rest)
     }
 }

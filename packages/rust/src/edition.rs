@@ -46,15 +46,15 @@ pub enum Large {}
 
 impl Edition for Small {
     const LABELS: usize = 64;
-    const VERDICT_STACK_BYTES: usize = 53_248;
-    const CHECK_STACK_BYTES: usize = 72_704;
+    const VERDICT_STACK_BYTES: usize = 57_344;
+    const CHECK_STACK_BYTES: usize = 71_680;
     const STACK_BYTES: usize = 98_304;
 }
 
 impl Edition for Large {
     const LABELS: usize = 256;
-    const VERDICT_STACK_BYTES: usize = 60_416;
-    const CHECK_STACK_BYTES: usize = 607_232;
+    const VERDICT_STACK_BYTES: usize = 58_368;
+    const CHECK_STACK_BYTES: usize = 606_208;
     const STACK_BYTES: usize = 786_432;
 }
 

@@ -41,49 +41,49 @@ pub convert-requires : goal.convert-requires
 convert-requires c = let b = bounds _ c.in-Convert.is c.requires.1 in search rules
 
 pub returns-in-Nothing : goal.returns-in-Nothing
-returns-in-Nothing c _ _ _ _ = said-nothing c.in-Nothing.is
+returns-in-Nothing c p serves = said-nothing c.in-Nothing.is
 
 pub returns-in-Named : goal.returns-in-Named
-returns-in-Named c _ _ _ _ = said_plain (search rules) c.in-Named.is refl c.name_variable.ensures
+returns-in-Named c p serves = said_plain (search rules) c.in-Named.is refl c.name_variable.ensures
 
 pub returns-in-Grant : goal.returns-in-Grant
-returns-in-Grant c _ _ _ _ = said_plain (search rules) c.in-Grant.is refl c.grant.ensures
+returns-in-Grant c p serves = said_plain (search rules) c.in-Grant.is refl c.grant.ensures
 
 pub returns-in-Property : goal.returns-in-Property
-returns-in-Property c _ _ _ _ = said_plain (search rules) c.in-Property.is refl c.set_property.ensures
+returns-in-Property c p serves = said_plain (search rules) c.in-Property.is refl c.set_property.ensures
 
 pub returns-in-Held : goal.returns-in-Held
-returns-in-Held c _ _ _ _ = said_plain (search rules) c.in-Held.is refl c.give_label.ensures
+returns-in-Held c p serves = said_plain (search rules) c.in-Held.is refl c.give_label.ensures
 
 pub returns-in-Copy : goal.returns-in-Copy
-returns-in-Copy c _ _ _ _ = said_plain (search rules) c.in-Copy.is refl c.copy.ensures
+returns-in-Copy c p serves = said_plain (search rules) c.in-Copy.is refl c.copy.ensures
 
 pub returns-in-Load : goal.returns-in-Load
-returns-in-Load c p lays _ _ = said (search rules) c.in-Load.is refl (c.load.ensures p lays)
+returns-in-Load c p serves = said (search rules) c.in-Load.is refl (c.load.ensures p serves.lays)
 
 pub returns-in-Store : goal.returns-in-Store
-returns-in-Store c p lays _ _ = said (search rules) c.in-Store.is refl (c.store.ensures p lays)
+returns-in-Store c p serves = said (search rules) c.in-Store.is refl (c.store.ensures p serves.lays)
 
 pub returns-in-Make : goal.returns-in-Make
-returns-in-Make c _ _ _ _ = said_plain (search rules) c.in-Make.is refl c.give_label-in-Make.ensures
+returns-in-Make c p serves = said_plain (search rules) c.in-Make.is refl c.give_label-in-Make.ensures
 
 pub returns-in-MakeFunction : goal.returns-in-MakeFunction
-returns-in-MakeFunction c _ _ _ _ = said_plain (search rules) c.in-MakeFunction.is refl c.make_function.ensures
+returns-in-MakeFunction c p serves = said_plain (search rules) c.in-MakeFunction.is refl c.make_function.ensures
 
 pub returns-in-Call : goal.returns-in-Call
-returns-in-Call c p lays formals returning = said (search rules) c.in-Call.is refl (c.call.ensures p lays formals returning)
+returns-in-Call c p serves = said (search rules) c.in-Call.is refl (c.call.ensures p serves)
 
 pub returns-in-New : goal.returns-in-New
-returns-in-New c p lays formals returning = said (search rules) c.in-New.is refl (c.make_new.ensures p lays formals returning)
+returns-in-New c p serves = said (search rules) c.in-New.is refl (c.make_new.ensures p serves)
 
 pub returns-in-Return : goal.returns-in-Return
-returns-in-Return c _ _ _ _ = said-return c.in-Return.is
+returns-in-Return c p serves = said-return c.in-Return.is
 
 pub returns-in-Throw : goal.returns-in-Throw
-returns-in-Throw c _ _ _ _ = said_plain (search rules) c.in-Throw.is refl c.throw.ensures
+returns-in-Throw c p serves = said_plain (search rules) c.in-Throw.is refl c.throw.ensures
 
 pub returns-in-Catch : goal.returns-in-Catch
-returns-in-Catch c _ _ _ _ = said_plain (search rules) c.in-Catch.is refl c.catch.ensures
+returns-in-Catch c p serves = said_plain (search rules) c.in-Catch.is refl c.catch.ensures
 
 pub returns-in-Convert : goal.returns-in-Convert
-returns-in-Convert c p lays formals _ = said (search rules) c.in-Convert.is refl (c.convert.ensures p lays formals)
+returns-in-Convert c p serves = said (search rules) c.in-Convert.is refl (c.convert.ensures p serves.lays serves.formals-of)

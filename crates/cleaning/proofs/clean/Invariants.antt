@@ -1,15 +1,10 @@
 -- The invariant: the rows below r of both tables are cleaned ones. Assumes nothing.
 use mathlib.Core.Path.{◌≡◌}
 use lib.ListN.{length}
-use Prim.Native.Nat.{◌-◌, ◌≤◌}
 use Rattle.sets.specs.Value.{value}
 use Rattle.lent.specs.Table.{table_at}
 use Rattle.cleaning.proofs.Copies.{CleansBelow}
 use Rattle.cleaning.proofs.clean.Given as goal
 
 abbrev pub invariant-loop-r : goal.invariant-loop-r
-invariant-loop-r l =
-    (1 ≤ l.r) × (l.r ≤ l.n) × (length l.t ≡ length l.initial.t) × CleansBelow l.wide (value l.wide l.declared) (table_at l.wide 0 l.table) l.r l.t
-
-abbrev pub decreases-loop-r : goal.decreases-loop-r
-decreases-loop-r l = l.n - l.r
+invariant-loop-r l = (length l.t ≡ length l.fn.t) × CleansBelow l.wide (value l.wide l.declared) (table_at l.wide 0 l.table) l.r l.t

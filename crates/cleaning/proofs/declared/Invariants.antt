@@ -1,11 +1,7 @@
 -- The invariant: the set has the labels below l that are declared. Assumes nothing.
-use Prim.Native.Nat.{◌-◌, ◌≤◌}
 use Rattle.sets.specs.Value.{value}
 use Rattle.cleaning.proofs.Copies.{DeclaresBelow}
 use Rattle.cleaning.proofs.declared.Given as goal
 
 abbrev pub invariant-loop-l : goal.invariant-loop-l
-invariant-loop-l l = (l.l ≤ l.n) × DeclaresBelow l.wide l.types l.l (value l.wide l.all)
-
-abbrev pub decreases-loop-l : goal.decreases-loop-l
-decreases-loop-l l = l.n - l.l
+invariant-loop-l l = DeclaresBelow l.wide l.types l.l (value l.wide l.all)

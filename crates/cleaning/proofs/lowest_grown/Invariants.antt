@@ -1,10 +1,6 @@
--- The invariant: no row below `low` grew. Assumes nothing.
-use Prim.Native.Nat.{◌-◌, ◌≤◌}
-use Rattle.cleaning.proofs.Lowest.{SameBelow}
+-- The invariant: no row below r grew. Assumes nothing.
+use Rattle.cleaning.specs.Copies.{SameBelow}
 use Rattle.cleaning.proofs.lowest_grown.Given as goal
 
-abbrev pub invariant-loop-low : goal.invariant-loop-low
-invariant-loop-low l = (l.low ≤ l.n) × SameBelow l.wide l.t l.low
-
-abbrev pub decreases-loop-low : goal.decreases-loop-low
-decreases-loop-low l = l.n - l.low
+abbrev pub invariant-loop-r : goal.invariant-loop-r
+invariant-loop-r l = SameBelow l.wide l.t l.r

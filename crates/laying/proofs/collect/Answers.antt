@@ -1,48 +1,33 @@
 -- What functions return: the invariant is that the arrays hold what the records passed return. Assumes nothing.
+use mathlib.Core.Path.{refl}
 use Prim.Native.Nat.{◌+◌}
-use native.Mathlib.Omega.{arith}
 use Rattle.rows.specs.Edition.{labels}
-use Rattle.format.proofs.File.{readable-read}
 use Rattle.records.proofs.Walks.{five-labels, most-labels, walk_first, first_done, onward}
-use Rattle.laying.proofs.Collected.{empty-whole, collected-first, collected-next, collected-all}
+use Rattle.laying.proofs.Collected.{collected-first, collected-next, collected-all}
 use Rattle.laying.proofs.collect.Goals as goal
-
-pub mark-requires : goal.mark-requires
-mark-requires c = let pre = c.requires in empty-whole _ (pre.1, pre.2, pre.3, pre.4)
 
 pub loop-at-init : goal.loop-at-init
 loop-at-init c =
     let L = labels c.args.wide in
-    let pre = c.requires in
-    let w = walk_first L c.args.file.now (five-labels c.args.wide) pre.0 in (
-      w,
-      rw (first_done L c.args.file.now (five-labels c.args.wide) pre.0)
-          (collected-first (pre.1, pre.2, pre.3, pre.4) c.mark.ensures),
+    let five = five-labels c.args.wide in
+    let p = c.positions-at-items.ensures in
+    rw (c.into_iter-at-iterator.ensures.into_iter_gives, p.0, p.1) (
+      refl,
+      (walk_first L c.args.file.now five c.requires.0, rw (first_done L c.args.file.now five c.requires.0) (collected-first c.requires.1 c.mark.ensures)),
     )
-
-pub collect_at-requires : goal.collect_at-requires
-collect_at-requires c =
-    let l = c.loop-at in
-    (l.invariant.0, c.loop-at-test.true, l.invariant.1.whole)
-
-pub after-at-requires : goal.after-at-requires
-after-at-requires c =
-    let l = c.loop-at in
-    (l.invariant.0, c.loop-at-test.true, (readable-read _ _ c.requires.0).short)
-
-pub loop-at-smaller : goal.loop-at-smaller
-loop-at-smaller c =
-    let t = c.loop-at-test.true in
-    omega (arith, c.after-at.ensures)
 
 pub loop-at-preserved : goal.loop-at-preserved
 loop-at-preserved c =
     let known = c.shared_slice_known-1 in
-    let l = c.loop-at in
-    let h = c.loop-at-test.true in
-    rw c.after-at.ensures (onward l.invariant.0 h, collected-next l.invariant.0 h (known.given (l.at + 2)).fits c.collect_at.ensures l.invariant.1)
+    let inv = c.loop-at.invariant in
+    let s = rw inv.0 at c.in-Some.ensures.steps in
+    let h = rw s.1.0 at s.1.1 in
+    rw (s.0, s.1.2, s.1.0) (
+      refl,
+      (onward inv.1.0 h, collected-next inv.1.0 h (known.given (c.loop-at.at-iterator.at + 2)).fits (rw s.1.0 at c.collect_at.ensures) inv.1.1),
+    )
 
 pub returns : goal.returns
 returns c =
-    let l = c.loop-at in
-    collected-all (five-labels c.args.wide) (most-labels c.args.wide) c.requires.0 l.invariant.0 c.loop-at-test.false l.invariant.1
+    let inv = c.loop-at.invariant in
+    collected-all (five-labels c.args.wide) (most-labels c.args.wide) c.requires.0 inv.1.0 (rw inv.0 at c.in-None.ensures.steps.1) inv.1.1

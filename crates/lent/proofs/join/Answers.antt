@@ -1,4 +1,5 @@
 -- A set joined to a row: row 0 takes nothing, a row that holds the set stays, else the union is stored. Assumes nothing.
+use borrow.Author.Rules.{rules}
 use Prim.Native.Nat.{◌+◌, ◌*◌}
 use Rattle.rows.specs.Run.{number}
 use Rattle.rows.specs.Edition.{words}
@@ -14,11 +15,11 @@ pub returns-then-is_within : goal.returns-then-is_within
 returns-then-is_within c =
     let a = c.args in
     joined-held (words a.wide) a.o a.r (value a.wide a.s) a.t.now c.if-r-eq0.false c.is_within.ensures.bound
-    (number_lt _ _ _ (λ i. (c.slice_known-1.given i).fits)) (lacks-nothing _ {old = number (words a.wide) a.t.now (a.o + words a.wide * a.r)} c.row-old.ensures c.is_within.ensures.value c.if-is_within.true)
+    (number_lt _ _ _ (search rules)) (lacks-nothing _ {old = number (words a.wide) a.t.now (a.o + words a.wide * a.r)} c.row-old.ensures c.is_within.ensures.value c.if-is_within.true)
 
 pub returns : goal.returns
 returns c =
     let a = c.args in
     joined-more (words a.wide) a.o a.r (value a.wide a.s) a.t.now _ c.if-r-eq0.false c.is_within.ensures.bound
-    (number_lt _ _ _ (λ i. (c.slice_known-1.given i).fits)) (lacks-some _ {old = number (words a.wide) a.t.now (a.o + words a.wide * a.r)} c.row-old.ensures c.is_within.ensures.value c.if-is_within.false)
+    (number_lt _ _ _ (search rules)) (lacks-some _ {old = number (words a.wide) a.t.now (a.o + words a.wide * a.r)} c.row-old.ensures c.is_within.ensures.value c.if-is_within.false)
     (rw (c.union-new.ensures, c.row-old.ensures) at c.write.ensures)

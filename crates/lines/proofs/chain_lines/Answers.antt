@@ -1,5 +1,4 @@
 -- The chains of all declared labels, one after the other. Assumes nothing.
-use borrow.Author.Rules.{rules}
 use mathlib.Core.Path.{◌≡◌}
 use native.Mathlib.Omega.{arith}
 use Rattle.rows.specs.Edition.{labels}
@@ -9,21 +8,13 @@ use Rattle.lines.proofs.Lines.{lines_none, lines_next}
 use Rattle.lines.proofs.chain_lines.Goals as goal
 
 pub loop-l-init : goal.loop-l-init
-loop-l-init c = search (rules, lines_none)
-
-pub declared_line-more-requires : goal.declared_line-more-requires
-declared_line-more-requires c =
-    (rw c.loop-l.invariant.0 c.requires, rw c.labels-count.ensures.0 at c.loop-l-test.true)
+loop-l-init c p e = lines_none (declared p.sheet) (chain_rule p.sheet)
 
 pub loop-l-preserved : goal.loop-l-preserved
-loop-l-preserved c = (
-  search rules,
-  search rules,
-  λ p e. lines_next (declared p.sheet) (chain_rule p.sheet) c.loop-l.l c.requires.apart (c.loop-l.invariant.2 p e) (c.declared_line-more.ensures p e),
-)
+loop-l-preserved c p e =
+    lines_next (declared p.sheet) (chain_rule p.sheet) c.loop-l.l c.requires.apart (c.loop-l.invariant p e) (c.declared_line-grew.ensures p e)
 
 pub returns : goal.returns
-returns c =
-    let wide = c.args.wide in
-    let e : c.loop-l.l ≡ labels wide = omega (arith, c.loop-l.invariant.1, c.loop-l-test.false, c.labels-count.ensures.0) in
-    λ p f. rw (← e) (c.loop-l.invariant.2 p f)
+returns c p f =
+    let e : c.loop-l.l ≡ labels c.args.wide = omega (arith, c.labels-l-end.ensures.0) in
+    rw (← e) (c.loop-l.invariant p f)

@@ -1,7 +1,6 @@
 -- The chains of all declared labels, one after the other. Assumes nothing.
 use mathlib.Core.Path.{◌≡◌}
-use Prim.Native.Nat.{◌-◌, ◌≤◌}
-use lib.ListN.{length, take}
+use lib.ListN.{take}
 use Rattle.rows.specs.Edition.{labels}
 use Rattle.rules.specs.Rule.{over, chosen}
 use Rattle.format.specs.Sheet.{declared}
@@ -13,8 +12,5 @@ use Rattle.lines.proofs.chain_lines.Given as goal
 
 abbrev pub invariant-loop-l : goal.invariant-loop-l
 invariant-loop-l l =
-    (length l.t ≡ length l.initial.t) × (l.l ≤ l.count)
-    × ((p : Program) → p.sheet.types ≡ take (labels l.wide) l.types → Applies l.wide l.o p (tells l.wide (over (chosen (declared p.sheet) l.l) (chain_rule p.sheet))) l.initial.t l.initial.keeps l.t l.keeps l.grew)
-
-abbrev pub decreases-loop-l : goal.decreases-loop-l
-decreases-loop-l l = l.count - l.l
+    (p : Program) → p.sheet.types ≡ take (labels l.wide) l.types
+    → Applies l.wide l.o p (tells l.wide (over (chosen (declared p.sheet) l.l) (chain_rule p.sheet))) l.initial.t l.initial.keeps l.t l.keeps l.grew

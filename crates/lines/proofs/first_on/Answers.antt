@@ -11,5 +11,5 @@ single-above-requires c = search (rules, low-label)
 pub returns : goal.returns
 returns c =
     let a = c.args in
-    on-first (value a.wide c.union.result) a.l.0 c.parent_of-parent.result.0 (parents_of a.kind)
-    (rw (c.single-own.ensures, c.single-above.ensures) at c.union.ensures) c.parent_of-parent.ensures.kind_value
+    on-first (value a.wide c.union.result) a.l.0 c.parent_of.result.0 (parents_of a.kind)
+    (rw (c.single-own.ensures, c.single-above.ensures) at c.union.ensures) c.parent_of.ensures.kind_value

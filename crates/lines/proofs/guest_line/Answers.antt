@@ -11,4 +11,4 @@ join-requires c = search (rules, row_fits)
 pub returns : goal.returns
 returns c =
     let a = c.args in
-    guest-used a.g.0 (1 ∷ 2 ∷ 4 ∷ []) c.chain-row.ensures.value c.chain-row.ensures.bound c.prototypes-all.ensures c.join.ensures
+    guest-used a.g.0 (1 ∷ 2 ∷ 4 ∷ []) c.chain.ensures.value c.chain.ensures.bound c.prototypes.ensures c.join.ensures

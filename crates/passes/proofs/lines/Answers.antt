@@ -11,4 +11,4 @@ guest_line-prototypes-requires c =
 pub returns : goal.returns
 returns c =
     λ p known. applies-lines c.requires.apart (c.chain_lines-chains.ensures p known.typed) c.guest_line-prototypes.ensures
-    (c.guest-said.ensures p known.lays known.formals-of known.returning)
+    (c.guest-said.ensures p known.serves)

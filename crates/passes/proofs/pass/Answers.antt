@@ -10,4 +10,4 @@ host_rules-b-requires c =
 pub returns : goal.returns
 returns c =
     λ known. applies-pass c.args.file.now c.requires.0.apart (c.lines-a.ensures _ known)
-    (c.host_rules-b.ensures _ known.lays known.formals-of known.returning)
+    (c.host_rules-b.ensures _ known.serves)

@@ -2,6 +2,7 @@
 use mathlib.Core.Path.{sym, ap, subst, ◌∙◌}
 use Prim.Native.Nat.{ℕ}
 use native.Mathlib.Nat.{div-one}
+use Rattle.std.proofs.Common.{rules}
 use native.Mathlib.Omega.{arith}
 use lib.ListN.{length}
 use Rattle.answer.specs.Outcome.{packed, Ranged}
@@ -18,5 +19,5 @@ returns c =
     let j = c.judge.ensures in
     let a = c.args in record {
       value = c.pack.ensures ∙ ap packed (j.result_value ∙ ap (λ (n : ℕ). verdict_outcome 64 n a.file.now) (div-one (length a.table.now)));
-      table_after = j.table_after ∙ words-one a.file.now a.table.now (λ i. (c.slice_known-1.given i).fits);
+      table_after = j.table_after ∙ words-one a.file.now a.table.now (λ i. search rules);
     }

@@ -6,5 +6,5 @@ use Rattle.sets.proofs.is_empty.Goals as goal
 pub returns-then-wide : goal.returns-then-wide
 returns-then-wide c = empty-wide _ (search rules)
 
-pub returns : goal.returns
-returns c = empty-narrow _ (search rules)
+pub returns-else-wide : goal.returns-else-wide
+returns-else-wide c = empty-narrow _ (search rules)

@@ -5,4 +5,4 @@ use borrow.Author.Rules.{rules}
 use Rattle.sets.proofs.lowest.Goals as goal
 
 pub returns : goal.returns
-returns c = taken-lowest (value-below _ _ (search rules)) c.next-n.ensures
+returns c = taken-lowest (value-below _ _ (search rules)) (rw c.unwrap.ensures at c.take.ensures)

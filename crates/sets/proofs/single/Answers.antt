@@ -1,19 +1,17 @@
 -- A single label: it is in one word. Assumes nothing.
-use Rattle.sets.proofs.Values.{single-a, single-b, single-c, single-d, in-last}
-use borrow.Author.Rules.{rules}
+use Rattle.rows.proofs.Edition.{labels-small}
+use Rattle.sets.proofs.Values.{single-value}
+use native.Mathlib.Omega.{arith}
 use Rattle.sets.proofs.single.Goals as goal
 
 pub returns-then-l-lt64 : goal.returns-then-l-lt64
-returns-then-l-lt64 c = single-a _ _ _ c.single.ensures
+returns-then-l-lt64 c = single-value _ 0 c.from-l.ensures c.requires (omega (arith, c.if-l-lt64.true)) c.single-word.ensures
 
 pub returns-then-l-lt128 : goal.returns-then-l-lt128
-returns-then-l-lt128 c = single-b _ _ _ (search rules) (search rules) c.single-then-l-lt128.ensures
+returns-then-l-lt128 c = single-value _ 1 c.from-l.ensures c.requires (omega (arith, c.if-l-lt64.false, c.if-l-lt128.true)) c.single-word.ensures
 
 pub returns-then-l-lt192 : goal.returns-then-l-lt192
-returns-then-l-lt192 c = single-c _ _ _ (search rules) (search rules) c.single-then-l-lt192.ensures
-
-pub single-requires-2 : goal.single-requires-2
-single-requires-2 c = in-last c.args.wide _ c.requires
+returns-then-l-lt192 c = single-value _ 2 c.from-l.ensures c.requires (omega (arith, c.if-l-lt128.false, c.if-l-lt192.true)) c.single-word.ensures
 
 pub returns : goal.returns
-returns c = single-d _ _ _ (search rules) (search rules) c.single-2.ensures
+returns c = single-value _ 3 c.from-l.ensures c.requires (omega (arith, c.if-l-lt192.false, labels-small c.args.wide)) c.single-word.ensures

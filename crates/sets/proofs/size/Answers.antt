@@ -10,5 +10,5 @@ returns-then-wide c =
     let e = size-wide c.args.x c.if-wide.true (search rules) in
     omega arith
 
-pub returns : goal.returns
-returns c = c.word_size-2.ensures.0 ∙ sym (size-narrow _ (search rules) (search rules))
+pub returns-else-wide : goal.returns-else-wide
+returns-else-wide c = c.size-else-wide.ensures.value ∙ sym (size-narrow _ (search rules) (search rules))

@@ -13,7 +13,6 @@ use Rattle.analysis.proofs.Fit.{rules-fit}
 use Rattle.records.proofs.Walks.{five-labels}
 use Rattle.uses.specs.Use.{Lent}
 use Rattle.uses.proofs.Use.{reached-length}
-use Rattle.passes.proofs.Arrays.{known}
 use Rattle.solver.proofs.Passing.{turned-first, turned-settled, turned, turned-less}
 use Rattle.solver.proofs.settle.Goals as goal
 
@@ -34,7 +33,7 @@ search_on-requires c = (lent c.args.wide _ _ (reached-length c.rounds.invariant.
 
 pub pass-again-requires : goal.pass-again-requires
 pass-again-requires c =
-    let here = known c.requires.2 c.lay_out.ensures.lays c.lay_out.ensures.returns_of in
+    let here = c.lay_out.ensures in
     let inv = c.rounds.invariant in (
       lent c.args.wide _ _ (reached-length (c.search_on.ensures here inv.old inv.since inv.remembers).reached)
           (lent c.args.wide _ _ (reached-length inv.solving.reached) c.requires.0),
@@ -44,7 +43,7 @@ pass-again-requires c =
 pub rounds-smaller : goal.rounds-smaller
 rounds-smaller c =
     let a = c.args in
-    let here = known c.requires.2 c.lay_out.ensures.lays c.lay_out.ensures.returns_of in
+    let here = c.lay_out.ensures in
     turned-less a.file.now (fits a.wide a.file.now c.requires.1) _ c.rounds.invariant (c.search_on.ensures here)
     (λ old. c.forget.ensures 0 (program_in (labels a.wide) a.file.now) old _)
     (c.pass-again.ensures here) c.rounds-test.true
@@ -52,7 +51,7 @@ rounds-smaller c =
 pub rounds-preserved : goal.rounds-preserved
 rounds-preserved c =
     let a = c.args in
-    let here = known c.requires.2 c.lay_out.ensures.lays c.lay_out.ensures.returns_of in
+    let here = c.lay_out.ensures in
     turned a.file.now (fits a.wide a.file.now c.requires.1) _ c.rounds.invariant (c.search_on.ensures here)
     (λ old. c.forget.ensures 0 (program_in (labels a.wide) a.file.now) old _)
     (c.pass-again.ensures here)

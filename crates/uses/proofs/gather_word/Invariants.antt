@@ -5,8 +5,5 @@ use Rattle.uses.specs.Gather.{row_from}
 use Rattle.uses.proofs.Unions.{Adding}
 use Rattle.uses.proofs.gather_word.Given as goal
 
-abbrev pub invariant-loop-rest : goal.invariant-loop-rest
-invariant-loop-rest l = Adding (row_from l.base) (table_of l.wide l.t) l.w (value l.wide l.initial.all) l.rest (value l.wide l.all)
-
-abbrev pub decreases-loop-rest : goal.decreases-loop-rest
-decreases-loop-rest l = l.rest
+abbrev pub invariant-loop-l : goal.invariant-loop-l
+invariant-loop-l l = Adding (row_from l.base) (table_of l.wide l.t) l.w (value l.wide l.initial.all) l.l-iterator.rest (value l.wide l.all)

@@ -1,10 +1,7 @@
 -- What a variable holds: its row. Assumes nothing.
 use borrow.Author.Rules.{rules}
-use Rattle.uses.proofs.Rows.{row_read, row_is, variable-row}
+use Rattle.uses.proofs.Rows.{row_is, variable-row}
 use Rattle.uses.proofs.held.Goals as goal
-
-pub row-requires-2 : goal.row-requires-2
-row-requires-2 c = search (rules, row_read, variable-row)
 
 pub returns : goal.returns
 returns c = rw (← c.row.ensures.value) (search (rules, row_is, variable-row))

@@ -1,17 +1,11 @@
 -- The forbidden labels in row 1. Assumes nothing.
 use mathlib.Core.Path.{ap, ◌∙◌}
 use lib.Bits.{bit_and}
-use lib.ListN.{length}
 use Prim.Native.Nat.{ℕ}
 use native.Mathlib.Omega.{arith}
 use Rattle.sets.specs.Value.{value}
-use Rattle.uses.proofs.Rows.{row_read, row_is, variable-row}
+use Rattle.uses.proofs.Rows.{row_is, variable-row}
 use Rattle.whole.proofs.held.Goals as goal
-
-pub row-bag-requires : goal.row-bag-requires
-row-bag-requires c =
-    let a = c.args in
-    row_read a.wide 1 (length a.t.now) c.requires (variable-row a.wide (omega arith))
 
 pub returns : goal.returns
 returns c =

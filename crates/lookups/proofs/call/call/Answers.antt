@@ -6,7 +6,7 @@ use Rattle.lookups.proofs.Calls.{functions-are, calls-nothing, call-applies}
 use Rattle.lookups.proofs.call.call.Goals as goal
 
 pub returns-then-is_empty : goal.returns-then-is_empty
-returns-then-is_empty c p lays formals returning = search (rules, calls-nothing, is_none)
+returns-then-is_empty c p serves = search (rules, calls-nothing, is_none)
 
 pub throw_on-thrown-requires : goal.throw_on-thrown-requires
 throw_on-thrown-requires c =
@@ -15,7 +15,7 @@ throw_on-thrown-requires c =
 pub returns : goal.returns
 returns c =
     let s = c.args.site in
-    λ p lays formals returning.
-    let functions = functions-are (value c.args.wide c.held-held.result) lays c.functions_in-fs.ensures in
-    call-applies s.scope.0 s.result.0 s.callee.0 s.inputs c.requires.0.apart lays c.held-held.ensures c.functions_in-fs.ensures
-    (c.hand_all-handed.ensures p formals functions) (c.hand_back-back.ensures p returning functions) (c.throw_on-thrown.ensures p)
+    λ p serves.
+    let functions = functions-are (value c.args.wide c.held-held.result) serves.lays c.functions_among-fs.ensures in
+    call-applies s.scope.0 s.result.0 s.callee.0 s.inputs c.requires.0.apart serves.lays c.held-held.ensures c.functions_among-fs.ensures
+    (c.hand_all-handed.ensures p serves.formals-of functions) (c.hand_back-back.ensures p serves.returning functions) (c.throw_on-thrown.ensures p)

@@ -16,7 +16,7 @@ returns-then-is_empty c =
     let a = c.args in
     λ p lays formals. converts-nothing a.k.0 a.x.0 c.requires.0.apart lays c.held-held.ensures (c.told_chains-on.ensures p)
     (rw c.none-none.ensures at (c.told_under-strings.ensures p lays)) (rw c.none-none.ensures at (c.told_under-values.ensures p lays))
-    (rw c.union.ensures at c.functions_in-fs.ensures) (is_none _ c.is_empty.ensures c.if-is_empty.true)
+    (rw c.union.ensures at c.functions_among-fs.ensures) (is_none _ c.is_empty.ensures c.if-is_empty.true)
 
 pub spread_inputs-handed-requires : goal.spread_inputs-handed-requires
 spread_inputs-handed-requires c =
@@ -30,7 +30,7 @@ pub returns : goal.returns
 returns c =
     let a = c.args in
     λ p lays formals.
-    let is-fs = rw c.union.ensures at c.functions_in-fs.ensures in
+    let is-fs = rw c.union.ensures at c.functions_among-fs.ensures in
     convert-applies a.k.0 a.x.0 c.requires.0.apart lays c.held-held.ensures (c.told_chains-on.ensures p)
     (rw c.none-none.ensures at (c.told_under-strings.ensures p lays)) (rw c.none-none.ensures at (c.told_under-values.ensures p lays)) is-fs
-    (c.spread_inputs-handed.ensures p formals (functions-are (value a.wide c.union.result) lays c.functions_in-fs.ensures)) (c.throw_on-thrown.ensures p)
+    (c.spread_inputs-handed.ensures p formals (functions-are (value a.wide c.union.result) lays c.functions_among-fs.ensures)) (c.throw_on-thrown.ensures p)

@@ -1,7 +1,4 @@
 -- All inputs, one after the other. Assumes nothing.
-use mathlib.Core.Path.{◌≡◌}
-use Prim.Native.Nat.{◌-◌, ◌≤◌}
-use lib.ListN.{length}
 use Rattle.program.specs.Program.{Program}
 use Rattle.sets.specs.Value.{value}
 use Rattle.host.specs.Lays.{FormalsOf, Functions}
@@ -12,8 +9,5 @@ use Rattle.lookups.proofs.call.hand_all.Given as goal
 
 abbrev pub invariant-loop-j : goal.invariant-loop-j
 invariant-loop-j l =
-    (length l.t ≡ length l.initial.t) × (l.j ≤ 7)
-    × ((p : Program) → FormalsOf p l.formals → Functions p (value l.wide l.fs) → Applies l.wide l.o p (handing_all l.wide p (value l.wide l.fs) (input_at l.inputs) l.j) l.initial.t l.initial.keeps l.t l.keeps l.grew)
-
-abbrev pub decreases-loop-j : goal.decreases-loop-j
-decreases-loop-j l = 7 - l.j
+    (p : Program) → FormalsOf p l.host.sheet.now.formals → Functions p (value l.wide l.fs)
+    → Applies l.wide l.o p (handing_all l.wide p (value l.wide l.fs) (input_at l.inputs) l.j) l.initial.t l.initial.keeps l.t l.keeps l.grew

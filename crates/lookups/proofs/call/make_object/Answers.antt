@@ -1,6 +1,7 @@
 -- The object of new, and its prototype. Assumes nothing.
 use mathlib.Core.Path.{refl}
 use borrow.Author.Rules.{rules}
+use Rattle.records.specs.Say.{input_at}
 use Rattle.uses.proofs.Rows.{variable-row}
 use Rattle.uses.proofs.Use.{reached-length}
 use Rattle.lookups.proofs.Calls.{object-applies}
@@ -21,6 +22,6 @@ pub returns : goal.returns
 returns c =
     let a = c.args in
     λ p lays.
-    object-applies a.y.0 a.callee.0 a.this.0 a.l.0 c.requires.0.apart
+    object-applies a.site.result.0 a.site.callee.0 (input_at a.site.inputs 0) a.l.0 c.requires.0.apart
     (rw c.row.ensures.value at c.give-gave.ensures) c.copy-same.ensures c.held-held.ensures (c.told_chains-on.ensures p)
     (rw c.chain.ensures.value at (c.look_up-found.ensures p lays))

@@ -13,29 +13,23 @@ use Rattle.passes.proofs.Guests.{guest_list, guest-all, guest-keyed, guest-proto
 use Rattle.passes.proofs.guest.guest.Goals as goal
 
 pub loop-i-init : goal.loop-i-init
-loop-i-init c = (refl, omega arith, λ p lays formals returning. applies-none _ refl)
+loop-i-init c p serves = applies-none _ refl
 
-pub statement-requires : goal.statement-requires
-statement-requires c = (c.guest_key-key.ensures.1, search rules)
-
-pub apply-more-requires : goal.apply-more-requires
-apply-more-requires c = (rw c.loop-i.invariant.0 c.requires, c.statement.ensures.in_bounds c.args.wide)
+pub apply-grew-requires : goal.apply-grew-requires
+apply-grew-requires c =
+    (record { room = search rules; apart = c.requires.apart }, c.statement.ensures.in_bounds c.args.wide)
 
 pub loop-i-preserved : goal.loop-i-preserved
-loop-i-preserved c = (
-  search rules,
-  search rules,
-  λ p lays formals returning. guest-turn p c.guest_key-key.result c.is_prototyped-prototyped.result c.loop-i.i c.statement.result (search rules)
-      c.requires.apart (c.loop-i.invariant.2 p lays formals returning) (c.statement.ensures.result_value p) (c.apply-more.ensures p lays formals returning),
-)
+loop-i-preserved c p serves =
+    guest-turn p c.guest_key-key.result c.is_prototyped-prototyped.result c.loop-i.i c.statement.result (search rules)
+    c.requires.apart (c.loop-i.invariant p serves) (c.statement.ensures.result_value p) (c.apply-grew.ensures p serves)
 
 pub returns : goal.returns
-returns c =
+returns c p serves =
     let key = c.guest_key-key in
     let prototyped = c.is_prototyped-prototyped in
-    let e : c.loop-i.i ≡ 8 = omega (arith, c.loop-i.invariant.1, c.loop-i-test.false) in
-    λ p lays formals returning.
-    let k = key.ensures.0 ∙ guest-keyed p lays in
-    let q = prototyped.ensures ∙ ap (λ (n : ℕ). eqb (bit (names_in c.args.host.now n) 3) 1) key.ensures.0 ∙ guest-prototyped p lays in
+    let e : c.loop-i.i ≡ 8 = omega arith in
+    let k = key.ensures.0 ∙ guest-keyed p serves.lays in
+    let q = prototyped.ensures ∙ ap (λ (n : ℕ). eqb (bit (names_in c.args.host.now n) 3) 1) key.ensures.0 ∙ guest-prototyped p serves.lays in
     applies-same (every (take 8 (guest_list p key.result prototyped.result))) _ (sym (guest-all p key.result prototyped.result k q))
-    (rw (← e) (c.loop-i.invariant.2 p lays formals returning))
+    (rw (← e) (c.loop-i.invariant p serves))

@@ -1,7 +1,5 @@
 -- The rules of the records: the loop goes from record to record. Assumes nothing.
-use borrow.Author.Rules.{rules}
 use mathlib.Core.Path.{refl}
-use native.Mathlib.Omega.{arith}
 use Rattle.rows.specs.Edition.{labels}
 use Rattle.format.proofs.File.{readable-read}
 use Rattle.passes.proofs.Every.{applies-same}
@@ -9,31 +7,27 @@ use Rattle.passes.proofs.Walked.{walked_start, walked_next, walked_end}
 use Rattle.passes.proofs.walk.host_rules.Goals as goal
 
 pub loop-at-init : goal.loop-at-init
-loop-at-init c = (refl, walked_start c.requires.1)
+loop-at-init c =
+    let p = c.positions-at-items.ensures in
+    rw (c.into_iter-at-iterator.ensures.into_iter_gives, p.0, p.1) (refl, walked_start c.requires.1)
 
 pub statement_at-s-requires : goal.statement_at-s-requires
 statement_at-s-requires c =
-    (c.loop-at.invariant.1.walk, search rules, (readable-read (labels c.args.wide) c.args.file.now c.requires.1).short)
-
-pub apply-more-requires : goal.apply-more-requires
-apply-more-requires c =
-    (rw c.loop-at.invariant.0 c.requires.0, c.statement_at-s.ensures.in_bounds)
-
-pub after-at-requires : goal.after-at-requires
-after-at-requires c =
-    (c.loop-at.invariant.1.walk, search rules, (readable-read (labels c.args.wide) c.args.file.now c.requires.1).short)
-
-pub loop-at-smaller : goal.loop-at-smaller
-loop-at-smaller c =
-    omega (arith, c.after-at.ensures, c.loop-at-test.true)
+    let inv = c.loop-at.invariant in
+    let s = rw inv.0 at c.in-Some.ensures.steps in
+    rw s.1.0 (inv.1.walk, rw s.1.0 at s.1.1, (readable-read (labels c.args.wide) c.args.file.now c.requires.1).short)
 
 pub loop-at-preserved : goal.loop-at-preserved
-loop-at-preserved c = (
-  search rules,
-  walked_next c.requires.0.apart c.loop-at-test.true c.after-at.ensures c.loop-at.invariant.1
-      (λ p known. applies-same _ _ (c.statement_at-s.ensures.at_value p) (c.apply-more.ensures p known.0 known.1 known.2)),
-)
+loop-at-preserved c =
+    let inv = c.loop-at.invariant in
+    let s = rw inv.0 at c.in-Some.ensures.steps in
+    let h = rw s.1.0 at s.1.1 in (
+      s.0,
+      walked_next c.requires.0.apart h (rw s.1.0 at s.1.2) inv.1
+          (λ p serves. applies-same _ _ (rw s.1.0 at (c.statement_at-s.ensures.at_value p)) (c.apply-grew.ensures p serves)),
+    )
 
 pub returns : goal.returns
-returns c =
-    λ p lays formals returning. walked_end c.loop-at-test.false c.loop-at.invariant.1 p (lays, formals, returning)
+returns c p serves =
+    let inv = c.loop-at.invariant in
+    walked_end (rw inv.0 at c.in-None.ensures.steps.1) inv.1 p serves

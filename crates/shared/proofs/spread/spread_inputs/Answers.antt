@@ -1,13 +1,11 @@
 -- A set spread to inputs of functions. Assumes nothing.
-use mathlib.Core.Path.{◌∙◌, sym}
+use borrow.Author.Rules.{rules}
 use Rattle.kept.specs.Promise.{input}
 use Rattle.kept.proofs.Slots.{slot-input}
-use Rattle.shared.proofs.Applied.{applies-spread}
+use Rattle.shared.proofs.Families.{input-spread}
 use Rattle.shared.proofs.spread.spread_inputs.Goals as goal
 
 pub returns : goal.returns
-returns c =
-    let a = c.args in
-    λ p formals functions. applies-spread (input a.j) c.requires.0.apart (λ u. u) (λ i. slot-input a.j c.requires.1)
-    (λ l r h e. e ∙ sym (formals l a.j (functions l h) c.requires.1)) (λ l r h e. e ∙ formals l a.j (functions l h) c.requires.1)
-    c.leave-left.ensures c.spread_input-done.ensures c.learn.ensures
+returns c p formals functions =
+    c.spread.ensures c.args.o p (input c.args.j) c.requires.0.apart (λ u. u) (λ _. slot-input c.args.j c.requires.1)
+    (λ rest r u part give. input-spread p _ _ c.requires.0.apart c.requires.1 formals (λ f o. functions f (part f o)) (let called = give.1 in search rules))

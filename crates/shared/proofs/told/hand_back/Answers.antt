@@ -1,15 +1,8 @@
 -- What functions hand back, joined to a variable. Assumes nothing.
-use borrow.Author.Rules.{rules}
 use Rattle.kept.specs.Promise.{handed}
-use Rattle.uses.proofs.Rows.{row_fits, row_is, variable-row}
+use Rattle.uses.proofs.Rows.{row_is, variable-row}
 use Rattle.shared.proofs.Applied.{applies-told}
 use Rattle.shared.proofs.told.hand_back.Goals as goal
-
-pub row-have-requires : goal.row-have-requires
-row-have-requires c = search (rules, row_fits, variable-row)
-
-pub join-requires : goal.join-requires
-join-requires c = search (rules, row_fits, variable-row)
 
 pub returns : goal.returns
 returns c =

@@ -1,15 +1,8 @@
 -- What functions throw, joined to the row of a scope. Assumes nothing.
-use borrow.Author.Rules.{rules}
 use Rattle.kept.specs.Promise.{throws}
-use Rattle.uses.proofs.Rows.{row_fits, row_is}
+use Rattle.uses.proofs.Rows.{row_is}
 use Rattle.shared.proofs.Applied.{applies-told}
 use Rattle.shared.proofs.told.throw_on.Goals as goal
-
-pub row-have-requires : goal.row-have-requires
-row-have-requires c = search (rules, row_fits)
-
-pub join-requires : goal.join-requires
-join-requires c = search (rules, row_fits)
 
 pub returns : goal.returns
 returns c =

@@ -6,20 +6,11 @@ use Rattle.sheet.proofs.Cases.{cases}
 use Rattle.sheet.proofs.Laws.{cut-entry, cut-store}
 use Rattle.sheet.proofs.Sheet.take_label.Goals as goal
 
-pub returns-then-self-l-ne0 : goal.returns-then-self-l-ne0
+pub returns-clause-sheet_value : goal.returns-clause-sheet_value
 unfolding whole_refusal misnamed twice after
-returns-then-self-l-ne0 c =
-    let v = c.args in
-    let e = c.index-l.ensures.0 in
-    let h = c.requires.1 in
-    rw (cut-entry (labels v.wide) v.self.types _ _ e h) (search cases)
-
-pub returns : goal.returns
-unfolding whole_refusal misnamed twice after
-returns c =
+returns-clause-sheet_value c =
     let v = c.args in
     let n = labels v.wide in
-    let e = c.index-l.ensures.0 in
+    let e = c.from-l.ensures in
     let h = c.requires.1 in
-    rw (cut-store n v.self.types _ _ (get_or v.body.now 1 0) e h, cut-store n v.self.flags _ _ (get_or v.body.now 2 0) e h, cut-entry n v.self.types _ _ e h)
-    (search cases)
+    rw (cut-store n v.self.types _ _ (get_or v.body.now 1 0) e h, cut-store n v.self.flags _ _ (get_or v.body.now 2 0) e h) (search (cases, cut-entry n v.self.types _ _ e h))

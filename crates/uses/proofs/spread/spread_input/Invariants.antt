@@ -6,10 +6,8 @@ use Rattle.uses.specs.Spread.{formal_row}
 use Rattle.uses.proofs.Spreads.{Spreading}
 use Rattle.uses.proofs.spread.spread_input.Given as goal
 
-abbrev pub invariant-loop-x : goal.invariant-loop-x
-invariant-loop-x l =
-    (length l.t ≡ length l.initial.t)
-    × Spreading l.wide l.o (formal_row l.formals l.j) (value l.wide l.initial.rest) (value l.wide l.rest) (value l.wide l.x) (value l.wide l.initial.least) l.initial.t l.t l.grew (value l.wide l.least)
-
-abbrev pub decreases-loop-x : goal.decreases-loop-x
-decreases-loop-x l = value l.wide l.rest
+abbrev pub invariant-loop-f : goal.invariant-loop-f
+invariant-loop-f l =
+    (l.f-iterator.wide ≡ l.wide)
+    × (length l.t ≡ length l.initial.t)
+    × Spreading l.wide l.o (formal_row l.formals l.j) (value l.wide l.fn.s) (value l.wide l.f-iterator.rest) (value l.wide l.x) (value l.wide l.initial.least) l.initial.t l.t l.grew (value l.wide l.least)

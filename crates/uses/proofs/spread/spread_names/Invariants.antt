@@ -6,9 +6,7 @@ use Rattle.uses.specs.Spread.{row_after}
 use Rattle.uses.proofs.Spreads.{Spreading}
 use Rattle.uses.proofs.spread.spread_names.Given as goal
 
-abbrev pub invariant-loop-rest : goal.invariant-loop-rest
-invariant-loop-rest l =
-    (length l.t ≡ length l.initial.t) × Spreading l.wide l.o (row_after l.base) l.w l.rest (value l.wide l.x) (value l.wide l.initial.least) l.initial.t l.t l.grew (value l.wide l.least)
-
-abbrev pub decreases-loop-rest : goal.decreases-loop-rest
-decreases-loop-rest l = l.rest
+abbrev pub invariant-loop-n : goal.invariant-loop-n
+invariant-loop-n l =
+    (length l.t ≡ length l.initial.t)
+    × Spreading l.wide l.o (row_after l.base) l.w l.n-iterator.rest (value l.wide l.x) (value l.wide l.initial.least) l.initial.t l.t l.grew (value l.wide l.least)

@@ -1,23 +1,18 @@
 -- A set joined to the properties of labels: the loop takes the labels one by one. Assumes nothing.
 use borrow.Author.Rules.{rules}
 use mathlib.Core.Path.{refl}
-use Rattle.sets.proofs.Values.{some_left, none_left}
-use Rattle.uses.proofs.Rows.{names-fit}
 use Rattle.uses.proofs.Spreads.{spreading-start, spreading-next, spreading-end, spread-for, rows_of, of-rows}
 use Rattle.uses.proofs.spread.spread_under.Goals as goal
 
-pub loop-x-init : goal.loop-x-init
-loop-x-init c = (refl, spreading-start)
+pub loop-l-init : goal.loop-l-init
+loop-l-init c = (cc, refl, spreading-start cc)
 
-pub next-next-requires : goal.next-next-requires
-next-next-requires c = some_left _ c.is_empty.ensures c.loop-x-test.true
-
-pub spread_names-one-requires : goal.spread_names-one-requires
-spread_names-one-requires c =
-    (rw c.loop-x.invariant.0 c.requires, names-fit c.args.wide c.next-next.ensures.below c.property-base.ensures.value)
-
-pub loop-x-preserved : goal.loop-x-preserved
-loop-x-preserved c = search (rules, spreading-next, spread-for, rows_of, of-rows)
+pub loop-l-preserved : goal.loop-l-preserved
+loop-l-preserved c =
+    let h = rw c.loop-l.invariant.0 at c.in-Some.ensures.steps in
+    search (rules, spreading-next, spread-for, rows_of, of-rows)
 
 pub returns : goal.returns
-returns c = search (rules, spreading-end, none_left)
+returns c =
+    let h = rw c.loop-l.invariant.0 at c.in-None.ensures.steps in
+    spreading-end c.requires.apart h.1.0 c.loop-l.invariant.2

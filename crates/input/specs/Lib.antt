@@ -1,2 +1,0 @@
--- What a count of bytes read promises.
-pub mod Within

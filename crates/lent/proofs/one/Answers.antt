@@ -1,9 +1,0 @@
--- One word, read. Assumes nothing.
-use mathlib.Core.Path.{refl}
-use Rattle.rows.specs.Run.{number}
-use Rattle.sets.specs.Value.{value}
-use Rattle.lent.proofs.one.Goals as goal
-
-pub returns : goal.returns
-unfolding value number
-returns c = refl
