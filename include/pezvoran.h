@@ -60,13 +60,13 @@ enum {
 
 /* The stack, in bytes. A call takes no more than this of it, on any file and table (computed from the archives and measured, in tests/memory); the check has two
    tables of its own there. What verdicts that run side by side take of memory is a table and this for each of them: eight take
-   8 * (8 * PEZVORAN_TABLE_WORDS + PEZVORAN_VERDICT_STACK_BYTES), 614,400 bytes, and 2,760,704 in the large edition. A thread takes some of its stack for itself, and
+   8 * (8 * PEZVORAN_TABLE_WORDS + PEZVORAN_VERDICT_STACK_BYTES), 565,248 bytes, and 2,760,704 in the large edition. A thread takes some of its stack for itself, and
    more where a program has much thread-local data. One with too little dies. */
 enum {
-    PEZVORAN_VERDICT_STACK_BYTES = 57344,
-    PEZVORAN_CHECK_STACK_BYTES = 71680,
+    PEZVORAN_VERDICT_STACK_BYTES = 51200,
+    PEZVORAN_CHECK_STACK_BYTES = 68608,
     PEZVORAN_LARGE_VERDICT_STACK_BYTES = 58368,
-    PEZVORAN_LARGE_CHECK_STACK_BYTES = 606208,
+    PEZVORAN_LARGE_CHECK_STACK_BYTES = 603136,
 
     PEZVORAN_THREAD_STACK_BYTES = 16384, /* beside the call: so much more is enough for a thread that only calls */
     PEZVORAN_STACK_BYTES = 98304,        /* enough for a thread that calls either operation */

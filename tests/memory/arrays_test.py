@@ -12,7 +12,7 @@ import arrays
 
 TREE = Path(__file__).parents[2].resolve()
 OPERATIONS = "crates/operations/src/lib.rt"
-JUDGE = "    solver::solve(table, file, wide, sheet);\n"  # a line of `judge` alone
+JUDGE = "    solver::solve(table, file, wide, &sheet);\n"  # a line of `judge` alone
 
 # What is put into `judge`, what is declared beside it, and what the check must say of it. No two have the same length.
 LONG = [

@@ -4,11 +4,8 @@
 // report_cases` in tests/second). Of a file that cannot be read nothing is printed, and a line on standard error says why.
 #![tactic(auto)]
 
-ghost use Rattle.std.specs.Prelude.{◌≡◌, ◌*◌};
-ghost use Rattle.rows.specs.Edition.{word_count};
-
+use answer::Answer;
 use input::Trouble;
-use operations::{LARGE_ROOM_WORDS, ROOM_WORDS};
 use rows::{LARGE_TABLE_WORDS, TABLE_WORDS};
 use std::io;
 
@@ -47,24 +44,19 @@ const FILES: [&str; 32] = [
     "profile-9",
 ];
 
-// What one edition says of a file.
-fn judge<const TABLE: usize, const ROOM: usize>(
-    rt: &impl Print,
-    file: &[u8],
-    wide: bool,
-) -> io::Result<()>
-    requires table { TABLE ≡ word_count wide }
-    requires room { ROOM ≡ 2 * word_count wide }
-{
-    let mut table = [0u64; TABLE];
-    desk::print_verdict(rt, file, wide, &mut table)?;
-    let answer = operations::examine::<ROOM>(file, wide, &table);
+// What the check says, printed.
+fn print_check(rt: &impl Print, answer: Answer, wide: bool) -> io::Result<()> {
     report::print(rt, answer, wide, sets::none(wide))
 }
 
+// What both editions say of a file.
 fn judge_both(rt: &impl Print, file: &[u8]) -> io::Result<()> {
-    judge::<TABLE_WORDS, ROOM_WORDS>(rt, file, false)?;
-    judge::<LARGE_TABLE_WORDS, LARGE_ROOM_WORDS>(rt, file, true)
+    let mut table = [0u64; TABLE_WORDS];
+    desk::print_verdict(rt, file, false, &mut table)?;
+    print_check(rt, pezvoran::examine(file, &table), false)?;
+    let mut table = [0u64; LARGE_TABLE_WORDS];
+    desk::print_verdict(rt, file, true, &mut table)?;
+    print_check(rt, pezvoran_large::examine(file, &table), true)
 }
 
 fn show<'a>(rt: &HostRuntime, name: &'a str) -> Result<(), Trouble<'a>> {
@@ -83,7 +75,7 @@ fn main(rt: HostRuntime) {
     }
     for name in FILES {
         if let Err(trouble) = show(&rt, name) {
-            let _ = eprintln!(rt; "{trouble}");
+            input::fail(&rt.stderr(), trouble.what.as_bytes(), trouble.error);
         }
     }
 }

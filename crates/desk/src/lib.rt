@@ -6,8 +6,8 @@
 ghost use Rattle.std.specs.Prelude.{◌≤◌, length};
 ghost use Rattle.rows.specs.Edition.{word_count};
 
-use input::Trouble;
 use std::io;
+use std::io::Error;
 
 // The verdict on a file, printed.
 pub fn print_verdict(rt: &impl Print, file: &[u8], wide: bool, table: &mut [u64]) -> io::Result<()>
@@ -17,33 +17,40 @@ pub fn print_verdict(rt: &impl Print, file: &[u8], wide: bool, table: &mut [u64]
     report::print(rt, answer, wide, lent::row(table, 0, wide, 1))
 }
 
+// Input that could not be read, or output that could not be written.
+enum Failed {
+    Reading(Error),
+    Writing(Error),
+}
+
 // Reads a file on standard input and prints the verdict on it.
-fn judge_input(rt: &HostRuntime, wide: bool, table: &mut [u64]) -> Result<(), Trouble<'static>>
+fn judge_input(rt: &HostRuntime, wide: bool, table: &mut [u64]) -> Result<(), Failed>
     requires { word_count wide ≤ length table.old }
 {
     let mut file = [0u8; layout::LONGEST + 1];
-    let n = input::read_all(rt, &mut rt.stdin(), &mut file).map_err(|error| Trouble {
-        what: "standard input",
-        error,
-    })?;
-    print_verdict(rt, &file[..n], wide, table).map_err(|error| Trouble {
-        what: "standard output",
-        error,
-    })
+    let n = input::read_all(rt, &mut rt.stdin(), &mut file).map_err(Failed::Reading)?;
+    print_verdict(rt, &file[..n], wide, table).map_err(Failed::Writing)
 }
 
-// The program of that name, of the edition. There is nowhere to say that a line on standard error could not be written.
-pub fn run(rt: &HostRuntime, program: &str, wide: bool, table: &mut [u64])
+// A program of the edition: what it says of its use, of input that cannot be read, of output that cannot be written.
+pub fn run(
+    rt: &HostRuntime,
+    wide: bool,
+    table: &mut [u64],
+    usage: &[u8],
+    unread: &[u8],
+    unwritten: &[u8],
+)
     requires { word_count wide ≤ length table.old }
 {
+    let trouble = rt.stderr();
     if input::has_words(rt) {
-        let labels = if wide { " of up to 256 labels" } else { "" };
-        let _ = eprintln!(rt;
-            "usage: {program} < FILE (a statement file{labels}; the verdict is printed on standard output)"
-        );
+        let _ = trouble.write_all(usage);
         return;
     }
-    if let Err(trouble) = judge_input(rt, wide, table) {
-        let _ = eprintln!(rt; "{program}: {trouble}");
+    match judge_input(rt, wide, table) {
+        Ok(()) => {}
+        Err(Failed::Reading(error)) => input::fail(&trouble, unread, error),
+        Err(Failed::Writing(error)) => input::fail(&trouble, unwritten, error),
     }
 }

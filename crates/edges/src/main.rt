@@ -6,14 +6,13 @@
 
 use answer::Answer;
 use input::Trouble;
-use std::io::Error;
 
 // One byte more than the cases may have.
 const MOST: usize = 262144;
 
 // What reading a file gives. A line that cannot be written is passed over.
 fn show(rt: &impl Print, file: &[u8], wide: bool) {
-    let _ = match reader::read(file, wide) {
+    let _ = match reader::read(file, wide).1 {
         Ok(_) => println!(rt; "read"),
         Err(no) => rt.println(Answer::Refused(no.refusal, no.position)),
     };
@@ -50,7 +49,8 @@ fn show_file<'a>(rt: &HostRuntime, name: &'a str) -> Result<(), Trouble<'a>> {
     let trouble = |error| Trouble { what: name, error };
     let n = input::read_file(rt, name, &mut cases).map_err(trouble)?;
     if n == MOST {
-        return Err(trouble(Error::other("is too long")));
+        let _ = eprintln!(rt; "{name}: is too long");
+        return Ok(());
     }
     show_edition(rt, &cases[..n], false);
     show_edition(rt, &cases[..n], true);
@@ -63,6 +63,6 @@ fn main(rt: HostRuntime) {
         return;
     }
     if let Err(trouble) = show_file(&rt, "cases") {
-        let _ = eprintln!(rt; "{trouble}");
+        input::fail(&rt.stderr(), trouble.what.as_bytes(), trouble.error);
     }
 }

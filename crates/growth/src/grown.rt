@@ -60,5 +60,6 @@ pub fn note_concerned(view: &View, roles: &Roles, grown: &mut Grown) {
     }
     grown.callees = holders(view, roles.callees, grown.functions);
     grown.objects = holders(view, roles.objects, grown.labels);
+    grown.chains = !sets::is_empty(true, grown.labels);
     grown.prims = prims_grew(view, grown.scopes);
 }

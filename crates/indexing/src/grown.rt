@@ -62,9 +62,10 @@ pub struct Grown {
     // variables that hold a function that hands back or throws more, and those that hold a label whose chain grew
     pub callees: Set,
     pub objects: Set,
-    // rows of T and of P
+    // rows of T and of P; whether some of P did, as a test of few steps
     pub scopes: Set,
     pub labels: Set,
+    pub chains: bool,
     // what functions hand back more of, what is thrown more of (and perhaps more)
     pub handed: Set,
     pub thrown: Set,
@@ -85,6 +86,7 @@ impl Grown {
             objects: none,
             scopes: none,
             labels: none,
+            chains: false,
             handed: none,
             thrown: none,
             functions: none,

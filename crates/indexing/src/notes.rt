@@ -2,16 +2,16 @@
 use crate::grown::{Due, Grown, Written};
 use crate::queue::Queue;
 use crate::round::Round;
-use crate::seen::Seen;
+use crate::seen::{HighWords, Seen};
 use crate::stored::Stored;
 
 #[derive(Drop)]
-pub struct Notes {
+pub struct Notes<'a> {
     // what is to be used next
     pub queue: Queue,
     // whose readers are to be used, and for what they have been
     pub due: Due,
-    pub seen: Seen,
+    pub seen: Seen<'a>,
     // since the last round
     pub written: Written,
     pub stored: Stored,
@@ -20,12 +20,13 @@ pub struct Notes {
     pub round: Round,
 }
 
-impl Notes {
-    pub fn nothing() -> Notes {
+impl<'a> Notes<'a> {
+    // Nothing yet; the high words are what `Seen` is lent.
+    pub fn nothing(high: Option<&'a mut HighWords>) -> Self {
         Notes {
             queue: Queue::empty(),
             due: Due::none(),
-            seen: Seen::nothing(),
+            seen: Seen::nothing(high),
             written: Written::nothing(),
             stored: Stored::nothing(),
             grown: Grown::nothing(),

@@ -3,32 +3,58 @@
 use crate::view::View;
 use sets::Set;
 
+// The second to fourth words, which sets of the edition of 64 labels do not have.
 #[derive(Drop)]
-pub struct Seen {
-    a: [u64; 256],
+pub struct HighWords {
     b: [u64; 256],
     c: [u64; 256],
     d: [u64; 256],
 }
 
-impl Seen {
-    pub fn nothing() -> Seen {
-        Seen {
-            a: [0; 256],
+impl HighWords {
+    pub fn none() -> HighWords {
+        HighWords {
             b: [0; 256],
             c: [0; 256],
             d: [0; 256],
         }
     }
 
-    // The labels that the readers of variable v have been used for.
-    fn labels(&self, v: u8) -> Set {
+    // The set of variable v, with its first word.
+    fn after(&self, a: u64, v: u8) -> Set {
         let i = usize::from(v);
         Set {
-            a: self.a[i],
+            a,
             b: self.b[i],
             c: self.c[i],
             d: self.d[i],
+        }
+    }
+}
+
+// The high words are lent where sets have them: in the small edition their room on the stack would be for nothing.
+#[derive(Drop)]
+pub struct Seen<'a> {
+    a: [u64; 256],
+    high: Option<&'a mut HighWords>,
+}
+
+impl<'a> Seen<'a> {
+    pub fn nothing(high: Option<&'a mut HighWords>) -> Self {
+        Seen { a: [0; 256], high }
+    }
+
+    // The labels that the readers of variable v have been used for.
+    fn labels(&self, v: u8) -> Set {
+        let a = self.a[usize::from(v)];
+        match &self.high {
+            Some(high) => high.after(a, v),
+            None => Set {
+                a,
+                b: 0,
+                c: 0,
+                d: 0,
+            },
         }
     }
 
@@ -42,9 +68,11 @@ impl Seen {
         let s = view.held(v);
         let i = usize::from(v);
         self.a[i] = s.a;
-        self.b[i] = s.b;
-        self.c[i] = s.c;
-        self.d[i] = s.d;
+        if let Some(high) = &mut self.high {
+            high.b[i] = s.b;
+            high.c[i] = s.c;
+            high.d[i] = s.d;
+        }
     }
 
     // The same for every variable.

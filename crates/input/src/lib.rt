@@ -28,6 +28,13 @@ impl fmt::Display for Trouble<'_> {
     }
 }
 
+// Says in one line what failed, and why. There is nowhere to say that this line could not be written.
+pub fn fail(to: &impl Print, what: &[u8], error: Error) {
+    if to.write_all(what).is_ok() {
+        let _ = println!(to; ": {error}");
+    }
+}
+
 // How often one read is tried again: at a millisecond each, longer than any machine lasts. Where it runs out, the read failed.
 const TRIES: u64 = u64::MAX;
 

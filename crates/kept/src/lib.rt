@@ -247,6 +247,7 @@ pub fn under_pair(wide: bool, key: u8) -> Option<usize>
     requires { Key key }
     ensures some { IfSome result (λ pair. (slot_of pair ≡ under key) × (pair < pair_count wide)) }
     ensures none { IfNone result (wide ≡ true) }
+    ensures no_room { IfNone result ((pair : ℕ) × (slot_of pair ≡ under key) × (pair < 128) × (pair_count wide ≤ pair)) }
 {
     let pair = under_at(key);
     (pair < count(wide)).then_some(pair)
@@ -257,6 +258,7 @@ pub fn stored_pair(wide: bool, key: u8) -> Option<usize>
     requires { Key key }
     ensures some { IfSome result (λ pair. (slot_of pair ≡ stored key) × (pair < pair_count wide)) }
     ensures none { IfNone result (wide ≡ true) }
+    ensures no_room { IfNone result ((pair : ℕ) × (slot_of pair ≡ stored key) × (pair < 128) × (pair_count wide ≤ pair)) }
 {
     let pair = stored_at(key);
     (pair < count(wide)).then_some(pair)

@@ -2,14 +2,14 @@
 // and the variables that functions return.
 #![tactic(auto)]
 
-ghost use Rattle.std.specs.Prelude.{◌≡◌, cond, ◌^◌, ◌<◌, length, eqb, ltb};
+ghost use Rattle.std.specs.Prelude.{◌≡◌, cond, ◌^◌, ◌<◌, length, take, eqb, ltb};
 ghost use Rattle.words.specs.Words.{bit, union};
 ghost use Rattle.rows.specs.Edition.{labels};
 ghost use Rattle.layout.specs.Key.{class_count};
 ghost use Rattle.format.specs.Reading.{Readable};
-ghost use Rattle.program.specs.Program.{program_in};
+ghost use Rattle.program.specs.Program.{Program, program_in};
 ghost use Rattle.sets.specs.Value.{value};
-ghost use Rattle.host.specs.Lays.{ReturnsOf, ReturnsNothing, Known};
+ghost use Rattle.host.specs.Lays.{Lays, ReturnsOf, ReturnsNothing, Known};
 ghost use Rattle.records.specs.Walk.{Walk};
 ghost use Rattle.laying.specs.Arrays.{Arrays};
 ghost use Rattle.laying.specs.Holds.{Holds, has_byte, of_class, Classes};
@@ -140,11 +140,14 @@ const FUNCTION: u8 = 2;
 
 const BUILT_IN: u8 = 1;
 
-// What the engine goes by of the file, whose declarations the sheet of `host` has, where no variable that a function returns was marked before. It is laid in
-// place: a Host that is handed back is copied twice, 8 kB each time.
+// What the engine goes by of the file: by the sheet of `host`, and, where no variable that a function returns was marked before, what the file's functions
+// return. Where the sheet has the file's declarations, all is the file's. It is laid in place: a Host that is handed back is copied twice, 8 kB each time.
 pub fn lay_out(wide: bool, file: &[u8], host: &mut Host)
-    requires { Readable (labels wide) file.now × Arrays wide file.now host.old.sheet.now × ReturnsNothing host.old.returns }
-    ensures { Known wide (program_in (labels wide) file.now) host.new }
+    requires { Readable (labels wide) file.now × ReturnsNothing host.old.returns }
+    ensures sheet { host.new.sheet.now ≡ host.old.sheet.now }
+    ensures lays { (p : Program) → p.sheet.types ≡ take (labels wide) host.old.sheet.now.types → p.sheet.flags ≡ take (labels wide) host.old.sheet.now.flags → p.sheet.masks ≡ host.old.sheet.now.masks → p.sheet.profile ≡ host.old.sheet.now.profile → Lays wide p host.new }
+    ensures returns_of { ReturnsOf (program_in (labels wide) file.now) host.new.returns }
+    ensures known { Arrays wide file.now host.old.sheet.now → Known wide (program_in (labels wide) file.now) host.new }
 {
     let sheet = host.sheet;
     host.functions = labels_with(wide, &sheet.types, FUNCTION);

@@ -6,4 +6,4 @@
 pub mod ends;
 mod links;
 pub mod past;
-mod recent;
+pub mod recent;

@@ -1,4 +1,6 @@
 // The records that grew something last, and the lines among them.
+ghost use Rattle.std.specs.Prelude.{◌≤◌};
+
 use indexing::position::Position;
 
 const PLACES: usize = 512;
@@ -9,6 +11,7 @@ pub struct Recent {
     places: [u16; PLACES],
     next: usize,
     count: usize,
+    ghost in_range: { count ≤ 512 },
 }
 
 impl Recent {
@@ -30,8 +33,10 @@ impl Recent {
         }
     }
 
-    // How many there are.
-    pub fn count(&self) -> usize {
+    // How many there are, at most 512.
+    pub fn count(&self) -> usize
+        ensures { result ≤ 512 }
+    {
         self.count
     }
 

@@ -30,8 +30,23 @@ use Rattle.lent.specs.Table.{table_at}
 use Rattle.whole.proofs.Rows.{same-room, rows_left, rest-left, some_words, short-rows, full-rows, bag-row}
 use Rattle.cleaning.proofs.Copies.{cleaned-rows}
 use Rattle.records.proofs.Walks.{five-labels}
+use Rattle.sheet.specs.View.{sheet_of}
+use Rattle.sheet.specs.declared.Sheet as declared
+use Rattle.laying.specs.Arrays.{Arrays}
 use Rattle.solver.specs.Solved.{Solved}
 use Rattle.operations.specs.Judgment.{judgment}
+
+-- ---- the arrays of the sheet that was read
+
+pub arrays-read : (wide : Bool) (file : List ℕ) (s : declared.Sheet) → sheet_of wide s ≡ (read_file (labels wide) file).sheet → Arrays wide file s
+arrays-read wide file s e =
+    record {
+      types_are = ap (λ (z : Sheet). z.types) (sym e);
+      flags-are = ap (λ (z : Sheet). z.flags) (sym e);
+      masks-are = ap (λ (z : Sheet). z.masks) (sym e);
+      formals-are = ap (λ (z : Sheet). z.formals) (sym e);
+      profile-is = ap (λ (z : Sheet). z.profile) (sym e);
+    }
 
 -- ---- a set that is held
 

@@ -3,7 +3,7 @@
 // crate of their own (pezvoran, pezvoran_large), so that the compiler makes code for its width alone.
 #![tactic(auto)]
 
-ghost use Rattle.std.specs.Prelude.{◌≡◌, ◌*◌, ◌^◌, ◌<◌, ◌≤◌};
+ghost use Rattle.std.specs.Prelude.{◌≡◌, ◌*◌, ◌^◌, ◌<◌, ◌≤◌, length};
 ghost use Rattle.std.specs.Int.Count.{count_trailing_zeros};
 ghost use Rattle.rows.specs.Edition.{labels, words, word_count};
 ghost use Rattle.rows.specs.Run.{room_for, rows_of};
@@ -47,14 +47,13 @@ pub fn judge(file: &[u8], wide: bool, table: &mut [u64]) -> Answer
     if table.len() < rows::word_count(wide) {
         return Answer::Refused(Refusal::TableTooShort, 0);
     }
-    match &reader::read(file, wide) {
-        Ok(sheet) => {
-            solver::solve(table, file, wide, sheet);
-            let held = whole::held(table, wide, sheet.forbidden);
-            judged(wide, held, whole::count(table, wide))
-        }
-        Err(no) => Answer::Refused(no.refusal, no.position),
+    let (sheet, ending) = reader::read(file, wide);
+    if let Err(no) = ending {
+        return Answer::Refused(no.refusal, no.position);
     }
+    solver::solve(table, file, wide, &sheet);
+    let held = whole::held(table, wide, sheet.forbidden);
+    judged(wide, held, whole::count(table, wide))
 }
 
 // The words of two tables, the room of a check, in the edition of 64 labels and in that of 256.
@@ -62,28 +61,35 @@ pub const ROOM_WORDS: usize = 2 * TABLE_WORDS;
 
 pub const LARGE_ROOM_WORDS: usize = 2 * LARGE_TABLE_WORDS;
 
-// The check of a finished table in either edition, with ROOM words of its own for two tables.
-pub fn examine<const ROOM: usize>(file: &[u8], wide: bool, table: &[u64]) -> Answer
-    requires enough { 2 * word_count wide ≤ ROOM }
-    requires size { ROOM < 2 ^ 60 }
+// The check of a finished table in either edition; `room` is for two tables, and what stood there counts for nothing.
+pub fn examine(file: &[u8], wide: bool, table: &[u64], room: &mut [u64]) -> Answer
+    requires { 2 * word_count wide ≤ length room.old }
     ensures { outcome_of result ≡ check_outcome (labels wide) file.now (rows_of (words wide) table.now) }
 {
     if table.len() < rows::word_count(wide) {
         return Answer::Refused(Refusal::TableTooShort, 0);
     }
-    match &reader::read(file, wide) {
-        Ok(sheet) => {
-            let mut room = [0u64; ROOM];
-            if let Some(gap) = checker::lowest_gap(&mut room, table, file, wide, sheet) {
-                return Answer::Refused(Refusal::TableNotClosed, gap);
-            }
-            let held = whole::held(table, wide, sheet.forbidden);
-            if sets::is_empty(wide, held) {
-                Answer::Accepted(0)
-            } else {
-                Answer::Holds(lowest_label(wide, held), GUEST)
-            }
-        }
-        Err(no) => Answer::Refused(no.refusal, no.position),
+    let (sheet, ending) = reader::read(file, wide);
+    if let Err(no) = ending {
+        return Answer::Refused(no.refusal, no.position);
     }
+    if let Some(gap) = checker::lowest_gap(room, table, file, wide, &sheet) {
+        return Answer::Refused(Refusal::TableNotClosed, gap);
+    }
+    let held = whole::held(table, wide, sheet.forbidden);
+    if sets::is_empty(wide, held) {
+        Answer::Accepted(0)
+    } else {
+        Answer::Holds(lowest_label(wide, held), GUEST)
+    }
+}
+
+// The same, with ROOM words of its own for the two tables.
+pub fn examine_here<const ROOM: usize>(file: &[u8], wide: bool, table: &[u64]) -> Answer
+    requires enough { 2 * word_count wide ≤ ROOM }
+    requires size { ROOM < 2 ^ 60 }
+    ensures { outcome_of result ≡ check_outcome (labels wide) file.now (rows_of (words wide) table.now) }
+{
+    let mut room = [0u64; ROOM];
+    examine(file, wide, table, &mut room)
 }

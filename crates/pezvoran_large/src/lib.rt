@@ -4,9 +4,11 @@
 ghost use Rattle.std.specs.Prelude.{◌≡◌};
 ghost use Rattle.rows.specs.Run.{room_for, rows_of};
 ghost use Rattle.answer.specs.Outcome.{packed};
+ghost use Rattle.answer.specs.Answer.{outcome_of};
 ghost use Rattle.verdicts.specs.Verdict.{verdict_outcome, verdict_words};
 ghost use Rattle.verdicts.specs.Check.{check_outcome};
 
+use answer::Answer;
 use operations::LARGE_ROOM_WORDS;
 
 // The verdict: see `packed` in the crate answer for the word.
@@ -19,9 +21,16 @@ pub extern "C" fn verdict_large(file: &[u8], table: &mut [u64]) -> u64
 }
 
 // The check of a finished table, which is only read.
+pub fn examine(file: &[u8], table: &[u64]) -> Answer
+    ensures { outcome_of result ≡ check_outcome 256 file.now (rows_of 4 table.now) }
+{
+    operations::examine_here::<LARGE_ROOM_WORDS>(file, true, table)
+}
+
+// The check, for C.
 #[unsafe(no_mangle)]
 pub extern "C" fn check_large(file: &[u8], table: &[u64]) -> u64
     ensures { result ≡ packed (check_outcome 256 file.now (rows_of 4 table.now)) }
 {
-    answer::pack(operations::examine::<LARGE_ROOM_WORDS>(file, true, table))
+    answer::pack(examine(file, table))
 }

@@ -7,7 +7,7 @@ ghost use Rattle.rows.specs.Edition.{labels};
 ghost use Rattle.sheet.specs.View.{sheet_of};
 ghost use Rattle.format.specs.Sheet.{start};
 ghost use Rattle.format.specs.Reading.{read_from, read_file};
-ghost use Rattle.reader.specs.Outcome.{IsEnding, IsReading};
+ghost use Rattle.reader.specs.Outcome.{IsEnding};
 
 use answer::Refusal;
 use layout::Kind;
@@ -20,8 +20,8 @@ pub struct Refused {
     pub position: usize,
 }
 
-// The records in order, from a fresh sheet: what they declare, and whether one was refused.
-fn read_records(sheet: &mut Sheet, file: &[u8], wide: bool) -> Result<(), Refused>
+// The records in order, from a fresh sheet: what they declare, and the position of the end or of the refusal at which reading stopped.
+fn read_records(sheet: &mut Sheet, file: &[u8], wide: bool) -> Result<usize, Refused>
     requires { sheet_of wide sheet.old ≡ start (labels wide) }
     ensures sheet_value { sheet_of wide sheet.new ≡ (read_from (labels wide) (start (labels wide)) 0 file.now).sheet }
     ensures ending { IsEnding result (read_from (labels wide) (start (labels wide)) 0 file.now) }
@@ -29,7 +29,7 @@ fn read_records(sheet: &mut Sheet, file: &[u8], wide: bool) -> Result<(), Refuse
     let mut at: usize = 0;
     let (refusal, position) = 'records: loop {
         if file.len() <= at {
-            return Ok(());
+            return Ok(at);
         }
         let Some(kind) = Kind::of(file[at]) else {
             break 'records (Refusal::UnknownKind, at);
@@ -45,8 +45,8 @@ fn read_records(sheet: &mut Sheet, file: &[u8], wide: bool) -> Result<(), Refuse
                 break 'records (refusal, at); // the kind byte's position
             }
         }
-        if sheet::declares(kind) {
-            let (next, taken) = sheet.take(wide, kind, body);
+        if sheet::declares(kind.number()) {
+            let (next, taken) = sheet.take(wide, kind.number(), body);
             *sheet = next;
             if let Err(refusal) = taken {
                 break 'records (refusal, at);
@@ -57,23 +57,31 @@ fn read_records(sheet: &mut Sheet, file: &[u8], wide: bool) -> Result<(), Refuse
     Err(Refused { refusal, position })
 }
 
-// A whole file: not too long, its records in order, and then no function left without its record.
-pub fn read(file: &[u8], wide: bool) -> Result<Sheet, Refused>
-    ensures { IsReading wide result (read_file (labels wide) file.now) }
+// A whole file: not too long, its records in order, and then no function left without its record. The sheet has what the records before the end or the
+// refusal declare; with it come the position of the end, or the refusal and its position.
+pub fn read(file: &[u8], wide: bool) -> (Sheet, Result<usize, Refused>)
+    ensures sheet_value { sheet_of wide result.0 ≡ (read_file (labels wide) file.now).sheet }
+    ensures ending { IsEnding result.1 (read_file (labels wide) file.now) }
 {
-    if layout::LONGEST < file.len() {
-        return Err(Refused {
-            refusal: Refusal::FileTooLong,
-            position: 0,
-        });
-    }
     let mut sheet = sheet::fresh(wide);
-    read_records(&mut sheet, file, wide)?;
-    if !sheet.is_complete(wide) {
-        return Err(Refused {
-            refusal: Refusal::FunctionMissing,
-            position: file.len(),
-        });
+    if layout::LONGEST < file.len() {
+        let refusal = Refusal::FileTooLong;
+        return (
+            sheet,
+            Err(Refused {
+                refusal,
+                position: 0,
+            }),
+        );
     }
-    Ok(sheet)
+    let end = match read_records(&mut sheet, file, wide) {
+        Ok(end) => end,
+        Err(no) => return (sheet, Err(no)),
+    };
+    if !sheet.is_complete(wide) {
+        let refusal = Refusal::FunctionMissing;
+        let position = end;
+        return (sheet, Err(Refused { refusal, position }));
+    }
+    (sheet, Ok(end))
 }

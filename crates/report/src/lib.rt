@@ -7,9 +7,9 @@ use answer::Answer;
 use sets::Set;
 use std::io;
 
-// What the guest's bag may hold: its labels, ascending, a space before each.
+// The end of a verdict's line, and what the guest's bag may hold: its labels, ascending, a space before each.
 fn print_guest(rt: &impl Print, wide: bool, bag: Set) -> io::Result<()> {
-    print!(rt; "guest")?;
+    print!(rt; "\nguest")?;
     for label in sets::labels(wide, bag) {
         print!(rt; " {}", label.0)?;
     }
@@ -18,9 +18,11 @@ fn print_guest(rt: &impl Print, wide: bool, bag: Set) -> io::Result<()> {
 
 // The answer, and for a verdict the labels in the guest's bag.
 pub fn print(rt: &impl Print, a: Answer, wide: bool, bag: Set) -> io::Result<()> {
-    println!(rt; "{a}")?;
     match a {
-        Answer::Confined(_) | Answer::Leaks(..) => print_guest(rt, wide, bag),
-        _ => Ok(()),
+        Answer::Confined(_) | Answer::Leaks(..) => {
+            print!(rt; "{a}")?;
+            print_guest(rt, wide, bag)
+        }
+        _ => println!(rt; "{a}"),
     }
 }

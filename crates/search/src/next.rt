@@ -69,8 +69,9 @@ impl Place {
         if queued.is_some() {
             return queued;
         }
-        if let Some(at) = self.reading.next(view, index) {
-            return found(&index.starts, Position::Record(at), Source::Readers);
+        if let Some(position) = self.reading.next(view, index) {
+            let source = Source::Readers;
+            return Some(Found { position, source });
         }
         if !notes.due.is_empty() {
             return None;

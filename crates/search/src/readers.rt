@@ -1,9 +1,13 @@
 // The readers of the variables that grew (`Record::follows`). They are used at once, variable by variable, the one that grew last first.
+ghost use Rattle.std.specs.Prelude.{List, ℕ, IfSome};
+ghost use Rattle.indexing.specs.Begins.{Begins, Named};
+
 use crate::scan::Scan;
 use indexing::bytes::one;
 use indexing::grown::Due;
 use indexing::index::Index;
 use indexing::notes::Notes;
+use indexing::position::Position;
 use indexing::record::Record;
 use indexing::view::View;
 use sets::Set;
@@ -61,11 +65,14 @@ impl Reading {
         notes.seen.see(view, v);
     }
 
-    // The place of the next reader. Kept apart from the loop of turns, which is faster so.
+    // The next reader. Kept apart from the loop of turns, which is faster so.
     #[inline(never)]
-    pub fn next(&mut self, view: &View, index: &Index) -> Option<usize> {
-        self.scan.find(&index.starts, |at| {
+    pub fn next(&mut self, view: &View, index: &Index) -> Option<Position>
+        ensures { (L : ℕ) (file : List ℕ) → Begins L file index.now.starts → IfSome result (λ p. Named L file p) }
+    {
+        let at = self.scan.find(&index.starts, |at| {
             Record::at(view.file, at).follows(index.calls, self.variable)
-        })
+        })?;
+        index.starts.confirmed(Position::Record(at))
     }
 }

@@ -4,7 +4,7 @@ use indexing::grown::Grown;
 use indexing::notes::Notes;
 use indexing::record::Record;
 use indexing::stored::Stored;
-use indexing::view::View;
+use indexing::view::{BY_NEW, BY_PRIM, View};
 use layout::Kind;
 
 // The keys of names 1, 2 and 3, by which prims and news look.
@@ -19,9 +19,9 @@ fn grew(grown: &Grown, record: Record, j: usize) -> bool {
     has(&grown.variables, record.byte(j))
 }
 
-// Whether something was stored under a name under which the record looks.
-fn names_grew(view: &View, grown: &Grown, record: Record) -> bool {
-    words::meet(grown.names, view.names_read(record)) != 0
+// Whether something was stored under one of these names, under which a record looks.
+fn names_grew(grown: &Grown, names: u64) -> bool {
+    words::meet(grown.names, names) != 0
 }
 
 // Whether label l, or one that variable v holds, sees something that was stored under the key.
@@ -43,10 +43,10 @@ fn lacks_handed(view: &View, grown: &Grown, record: Record) -> bool {
 
 // A load: a chain grew, or something was stored where it looks and its variable lacks it.
 fn wakes_load(view: &View, grown: &Grown, stored: &mut Stored, record: Record) -> bool {
-    if has(&grown.objects, record.byte(3)) || has(&grown.labels, record.byte(5)) {
+    if grown.chains && (has(&grown.objects, record.byte(3)) || has(&grown.labels, record.byte(5))) {
         return true;
     }
-    names_grew(view, grown, record)
+    names_grew(grown, view.names(record.byte(4)))
         && !sets::is_within(view.wide, grown.stored, view.held(record.byte(2)))
         && sees(view, stored, record.byte(3), record.byte(4), record.byte(5))
 }
@@ -62,22 +62,22 @@ fn wakes_call(view: &View, grown: &Grown, record: Record) -> bool {
 
 // What wakes a new beside what wakes a call.
 fn wakes_new(view: &View, grown: &Grown, stored: &mut Stored, record: Record) -> bool {
-    if grew(grown, record, 11) || has(&grown.objects, record.byte(3)) {
+    if grew(grown, record, 11) || grown.chains && has(&grown.objects, record.byte(3)) {
         return true;
     }
-    names_grew(view, grown, record) && sees(view, stored, record.byte(3), PROTOTYPE, 0)
+    names_grew(grown, BY_NEW) && sees(view, stored, record.byte(3), PROTOTYPE, 0)
 }
 
 // A prim: its object or a chain grew, or what is thrown, or something was stored where it looks.
 fn wakes_prim(view: &View, grown: &Grown, stored: &mut Stored, record: Record) -> bool {
     let object = record.byte(2);
-    if grew(grown, record, 2) || has(&grown.objects, object) {
+    if grew(grown, record, 2) || grown.chains && has(&grown.objects, object) {
         return true;
     }
     if grown.prims && lacks_thrown(view, grown, record) {
         return true;
     }
-    names_grew(view, grown, record)
+    names_grew(grown, BY_PRIM)
         && (sees(view, stored, object, FIRST, 0) || sees(view, stored, object, SECOND, 0))
 }
 
@@ -89,7 +89,7 @@ pub fn wakes(view: &View, notes: &mut Notes, record: Record) -> bool {
     let grown = &notes.grown;
     let stored = &mut notes.stored;
     match record.kind() {
-        Some(Kind::Variable) => names_grew(view, grown, record),
+        Some(Kind::Variable) => names_grew(grown, view.names_read(record)),
         Some(Kind::Load) => wakes_load(view, grown, stored, record),
         Some(Kind::Call) => wakes_call(view, grown, record),
         Some(Kind::New) => {

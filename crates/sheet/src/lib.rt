@@ -6,7 +6,6 @@ ghost use Rattle.std.specs.Prelude.{◌≡◌, not, ◌==◌, ◌&&◌, ◌<◌,
 ghost use Rattle.std.specs.List.{list_any, zip};
 ghost use Rattle.rows.specs.Edition.{labels};
 ghost use Rattle.layout.specs.Layout.{fields_of};
-ghost use Rattle.layout.specs.Kinds.{number_of};
 ghost use Rattle.format.specs.Sheet.{start};
 ghost use Rattle.format.specs.Fields.{Fits};
 ghost use Rattle.format.specs.Records.{whole_refusal};
@@ -85,10 +84,14 @@ pub fn fresh(wide: bool) -> Sheet
     }
 }
 
-// Whether records of this kind declare something. The others leave the sheet as it is, and it need not be copied for them.
-pub fn declares(kind: Kind) -> bool
-    ensures { result ≡ declaring (number_of kind) }
+// Whether a record that begins with this byte declares something. The others leave the sheet as it is, and it need not be copied for them. No record begins
+// with 0, which the definition counts among the numbers below 6.
+pub fn declares(kind: u8) -> bool
+    ensures { result ≡ declaring kind }
 {
+    let Some(kind) = Kind::of(kind) else {
+        return kind == 0;
+    };
     matches!(
         kind,
         Kind::Name | Kind::Label | Kind::Forbid | Kind::Function | Kind::Variable | Kind::Profile
@@ -191,19 +194,19 @@ impl Sheet {
         (self, Ok(()))
     }
 
-    // One record, whose fields are good: kinds 1 to 5 and 9 declare something, any other leaves the sheet as it is.
-    pub fn take(self, wide: bool, kind: Kind, body: &[u8]) -> (Self, Result<(), Refusal>)
-        requires { Fits (labels wide) (sheet_of wide self) (fields_of (number_of kind)) body.now }
-        ensures refusal_value { number_in result.1 ≡ whole_refusal (sheet_of wide self) (number_of kind) body.now }
-        ensures sheet_value { sheet_of wide result.0 ≡ handed_back (sheet_of wide self) (number_of kind) body.now }
+    // One record, whose fields are good, by the byte with which it begins: kinds 1 to 5 and 9 declare something, any other leaves the sheet as it is.
+    pub fn take(self, wide: bool, kind: u8, body: &[u8]) -> (Self, Result<(), Refusal>)
+        requires { Fits (labels wide) (sheet_of wide self) (fields_of kind) body.now }
+        ensures refusal_value { number_in result.1 ≡ whole_refusal (sheet_of wide self) kind body.now }
+        ensures sheet_value { sheet_of wide result.0 ≡ handed_back (sheet_of wide self) kind body.now }
     {
-        match kind {
-            Kind::Name => self.take_name(wide, body),
-            Kind::Label => self.take_label(wide, body),
-            Kind::Forbid => self.take_forbid(wide, body),
-            Kind::Function => self.take_function(wide, body),
-            Kind::Variable => self.take_variable(wide, body),
-            Kind::Profile => self.take_profile(wide, body),
+        match Kind::of(kind) {
+            Some(Kind::Name) => self.take_name(wide, body),
+            Some(Kind::Label) => self.take_label(wide, body),
+            Some(Kind::Forbid) => self.take_forbid(wide, body),
+            Some(Kind::Function) => self.take_function(wide, body),
+            Some(Kind::Variable) => self.take_variable(wide, body),
+            Some(Kind::Profile) => self.take_profile(wide, body),
             _ => (self, Ok(())),
         }
     }

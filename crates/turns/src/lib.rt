@@ -16,6 +16,7 @@ use growth::written::note_written;
 use host::Host;
 use indexing::index::Index;
 use indexing::notes::Notes;
+use indexing::seen::HighWords;
 use indexing::view::View;
 use linking::past::Past;
 use search::next::Place;
@@ -45,7 +46,14 @@ pub fn search_on(
         return;
     }
     let mut index = Index::none(FIRST < passes);
-    let mut notes = Notes::nothing();
+    let mut high = HighWords::none();
+    // a set of more than 64 labels has more than one word
+    let lent = if 64 < rows::labels(wide) {
+        Some(&mut high)
+    } else {
+        None
+    };
+    let mut notes = Notes::nothing(lent);
     let mut past = Past::nothing();
     let mut sizes = Sizes::none();
     let mut place = Place::start();

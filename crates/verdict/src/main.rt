@@ -5,5 +5,12 @@ use rows::TABLE_WORDS;
 
 fn main(rt: HostRuntime) {
     let mut table = [0u64; TABLE_WORDS];
-    desk::run(&rt, "verdict", false, &mut table);
+    desk::run(
+        &rt,
+        false,
+        &mut table,
+        b"usage: verdict < FILE (a statement file; the verdict is printed on standard output)\n",
+        b"verdict: standard input",
+        b"verdict: standard output",
+    );
 }

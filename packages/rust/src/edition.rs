@@ -46,15 +46,15 @@ pub enum Large {}
 
 impl Edition for Small {
     const LABELS: usize = 64;
-    const VERDICT_STACK_BYTES: usize = 57_344;
-    const CHECK_STACK_BYTES: usize = 71_680;
+    const VERDICT_STACK_BYTES: usize = 51_200;
+    const CHECK_STACK_BYTES: usize = 68_608;
     const STACK_BYTES: usize = 98_304;
 }
 
 impl Edition for Large {
     const LABELS: usize = 256;
     const VERDICT_STACK_BYTES: usize = 58_368;
-    const CHECK_STACK_BYTES: usize = 606_208;
+    const CHECK_STACK_BYTES: usize = 603_136;
     const STACK_BYTES: usize = 786_432;
 }
 

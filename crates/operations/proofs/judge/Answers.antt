@@ -24,21 +24,21 @@ returns-then-table-word_count c =
 pub returns-in-Err : goal.returns-in-Err
 returns-in-Err c =
     let a = c.args in
-    let r = rw c.in-Err.is at c.read.ensures in
+    let r = rw c.in-Err.is at c.read-ending.ensures.ending in
     let full : word_count a.wide ≤ length a.table.now = omega (arith, c.if-table-word_count.false, c.word_count.ensures.value) in
     let some : (read_file (labels a.wide) a.file.now).refusal ≡ 0 → ⊥ = (λ z. not-zero c.in-Err.no.refusal (r.0 ∙ z)) in record {
       result_value = ap₂ refused r.0 r.1 ∙ sym (refused-outcome a.wide a.file.now a.table.now full some);
       table_after = sym (refused-words a.wide a.file.now a.table.now full (λ i. search rules) some);
     }
 
-pub returns-in-Ok : goal.returns-in-Ok
-returns-in-Ok c =
+pub returns : goal.returns
+returns c =
     let a = c.args in
     let xs = a.file.now in
     let t = a.table.now in
-    let r = rw c.in-Ok.is at c.read.ensures in
+    let r = rw c.in_default.is at c.read-ending.ensures.ending in
     let full : word_count a.wide ≤ length t = omega (arith, c.if-table-word_count.false, c.word_count.ensures.value) in
-    let held = held_in a.wide _ (read_file (labels a.wide) xs).sheet c.held-held.ensures (ap (λ (z : Sheet). z.forbidden) r.1) in record {
+    let held = held_in a.wide _ (read_file (labels a.wide) xs).sheet c.held-held.ensures (ap (λ (z : Sheet). z.forbidden) c.read-ending.ensures.sheet_value) in record {
       result_value = c.judged.ensures
           ∙ ap₂ (judgment (labels a.wide)) held c.count.ensures.value
           ∙ sym (judged-outcome a.wide xs t full r.0 _ c.solve.ensures.least);

@@ -21,7 +21,7 @@ loop-class-preserved c =
 pub take-taken-requires : goal.take-taken-requires
 take-taken-requires c =
     let w = whole-record (labels c.args.wide) c.in-Some.kind c.fields-fields.result.now c.in-Some.ensures c.fields-fields.ensures c.records.invariant.1 c.if-file-at.false c.if-file-at-2.false in
-    here-fits w (sym c.loop-class.invariant ∙ fields-done _ _ _ _ c.in-None.ensures.steps)
+    rw c.number-then-declares.ensures (here-fits w (sym c.loop-class.invariant ∙ fields-done _ _ _ _ c.in-None.ensures.steps))
 
 pub records-preserved : goal.records-preserved
 records-preserved c =
@@ -33,10 +33,11 @@ records-preserved c =
     let made : (whole_refusal s k body ≡ 0) × (sheet_of wide c.if-declares.sheet ≡ after s k body) =
     elim c.if-declares.branch [
       | then-declares+in_default-taken b ↦
-          let none = sym b.take-taken.ensures.refusal_value ∙ ap number_in b.in_default-taken.is in
-          (none, ap (sheet_of wide) b.sheet-is ∙ rw none at b.take-taken.ensures.sheet_value)
+          let took = rw b.number-then-declares.ensures at b.take-taken.ensures in
+          let none = sym took.refusal_value ∙ ap number_in b.in_default-taken.is in
+          (none, ap (sheet_of wide) b.sheet-is ∙ rw none at took.sheet_value)
       | else-declares b ↦
-          let u = undeclared s k body (sym c.declares.ensures ∙ b.if-declares.false) in
+          let u = undeclared s k body (rw c.number.ensures at (sym c.declares.ensures) ∙ b.if-declares.false) in
           (u.0, ap (sheet_of wide) b.sheet-is ∙ u.1)
     ] in
     (next-within w.inside w.room, rw made.1 (here-next w (sym c.loop-class.invariant ∙ fields-done _ _ _ _ c.in-None.ensures.steps) made.0))
@@ -44,7 +45,7 @@ records-preserved c =
 pub returns-then-file-at : goal.returns-then-file-at
 returns-then-file-at c =
     let a = at-end _ _ _ _ c.records.invariant.1 c.if-file-at.true in
-    record { sheet_value = a.sheet-same; ending = sym a.refusal-same }
+    record { sheet_value = a.sheet-same; ending = (sym a.refusal-same, a.position-same) }
 
 pub returns-in_default : goal.returns-in_default
 returns-in_default c =
@@ -67,7 +68,7 @@ returns-in-Err c =
 pub returns-in-Err-taken : goal.returns-in-Err-taken
 returns-in-Err-taken c =
     let w = whole-record (labels c.args.wide) c.in-Some.kind c.fields-fields.result.now c.in-Some.ensures c.fields-fields.ensures c.records.invariant.1 c.if-file-at.false c.if-file-at-2.false in
-    let t = c.take-taken.ensures in
+    let t = rw c.number-then-declares.ensures at c.take-taken.ensures in
     let number = sym t.refusal_value ∙ ap number_in c.in-Err-taken.is in
     let a = here-bad-record w (sym c.loop-class.invariant ∙ fields-done _ _ _ _ c.in-None.ensures.steps) _ number (not-zero _) in
     record {

@@ -33,7 +33,7 @@ search_on-requires c = (lent c.args.wide _ _ (reached-length c.rounds.invariant.
 
 pub pass-again-requires : goal.pass-again-requires
 pass-again-requires c =
-    let here = c.lay_out.ensures in
+    let here = c.lay_out.ensures.known (rw c.new-host.ensures.sheet c.requires.2) in
     let inv = c.rounds.invariant in (
       lent c.args.wide _ _ (reached-length (c.search_on.ensures here inv.old inv.since inv.remembers).reached)
           (lent c.args.wide _ _ (reached-length inv.solving.reached) c.requires.0),
@@ -43,7 +43,7 @@ pass-again-requires c =
 pub rounds-smaller : goal.rounds-smaller
 rounds-smaller c =
     let a = c.args in
-    let here = c.lay_out.ensures in
+    let here = c.lay_out.ensures.known (rw c.new-host.ensures.sheet c.requires.2) in
     turned-less a.file.now (fits a.wide a.file.now c.requires.1) _ c.rounds.invariant (c.search_on.ensures here)
     (λ old. c.forget.ensures 0 (program_in (labels a.wide) a.file.now) old _)
     (c.pass-again.ensures here) c.rounds-test.true
@@ -51,7 +51,7 @@ rounds-smaller c =
 pub rounds-preserved : goal.rounds-preserved
 rounds-preserved c =
     let a = c.args in
-    let here = c.lay_out.ensures in
+    let here = c.lay_out.ensures.known (rw c.new-host.ensures.sheet c.requires.2) in
     turned a.file.now (fits a.wide a.file.now c.requires.1) _ c.rounds.invariant (c.search_on.ensures here)
     (λ old. c.forget.ensures 0 (program_in (labels a.wide) a.file.now) old _)
     (c.pass-again.ensures here)

@@ -1,8 +1,7 @@
 -- The lines, or a record that begins where the position says. Assumes nothing.
 use Rattle.rows.specs.Edition.{labels}
 use Rattle.format.proofs.File.{readable-read}
-use Rattle.indexing.specs.Begins.{BeginsAt, Named}
-use Rattle.indexing.specs.declared.position.Position.TheVariants.{Record}
+use Rattle.indexing.specs.Begins.{BeginsAt}
 use Rattle.turns.proofs.Turning.{steps-lines, steps-record, steps-part}
 use Rattle.turns.proofs.single.use_at.Goals as goal
 
