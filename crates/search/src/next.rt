@@ -60,8 +60,9 @@ impl Place {
         self.round = rounds::begun(index, notes);
     }
 
-    // The next position to use; none where nothing is left of the readers of a variable. Where no variable is due then, the round is over.
-    pub fn next(&mut self, view: &View, index: &Index, notes: &mut Notes) -> Option<Found>
+    // The next position to use, where it was noted whether a chain grew; none where nothing is left of the readers of a variable. Where no variable is due then, the
+    // round is over.
+    pub fn next_noted(&mut self, view: &View, index: &Index, notes: &mut Notes) -> Option<Found>
         ensures { Begins (labels view.now.wide) view.now.file.now index.now.starts → IfSome result (λ f. Named (labels view.now.wide) view.now.file.now f.position) }
     {
         self.reading.begin(view, index, notes);
@@ -83,8 +84,16 @@ impl Place {
                 source: Source::Round,
             });
         }
-        let at = rounds::next(&mut self.round, view, index, notes)?;
+        let at = rounds::next_noted(&mut self.round, view, index, notes)?;
         found(&index.starts, Position::Record(at), Source::Round)
+    }
+
+    // The same, whoever put down what grew: a chain may have grown.
+    pub fn next(&mut self, view: &View, index: &Index, notes: &mut Notes) -> Option<Found>
+        ensures { Begins (labels view.now.wide) view.now.file.now index.now.starts → IfSome result (λ f. Named (labels view.now.wide) view.now.file.now f.position) }
+    {
+        notes.grown.chains = true;
+        self.next_noted(view, index, notes)
     }
 
     // The labels that are all that is new in the object of a load, where they are known.

@@ -44,9 +44,63 @@ pub fn begun(index: &Index, notes: &Notes) -> Scan {
     Scan::of(marked, 8, u64::MAX, u64::MAX)
 }
 
-// The place of the next record of the round that is worth a look.
-pub fn next(scan: &mut Scan, view: &View, index: &Index, notes: &mut Notes) -> Option<usize> {
+// The place of the next record of the round that is worth a look, where it was noted whether a chain grew.
+pub fn next_noted(scan: &mut Scan, view: &View, index: &Index, notes: &mut Notes) -> Option<usize> {
     scan.find(&index.starts, |at| {
         wakes(view, notes, Record::at(view.file, at))
     })
+}
+
+// The same, whoever put down what grew: a chain may have grown, so that each look asks the sets.
+pub fn next(scan: &mut Scan, view: &View, index: &Index, notes: &mut Notes) -> Option<usize> {
+    notes.grown.chains = true;
+    next_noted(scan, view, index, notes)
+}
+
+#[cfg(test)]
+mod tests {
+    use super::*;
+    use crate::next::Place;
+    use host::Host;
+    use indexing::bytes::put;
+    use indexing::position::Position;
+    use rows::TABLE_WORDS;
+
+    // A load of an object in variable 6, of which it is put down by hand that it holds a label whose chain grew. Nobody noted that one did.
+    #[test]
+    fn a_load_is_found_by_what_was_put_down(rt: HostRuntime) {
+        let table = [0u64; TABLE_WORDS];
+        let file = [17u8, 0, 5, 6, 3, 0];
+        let sheet = sheet::fresh(false);
+        let host = Host::new(&sheet);
+        let view = View {
+            wide: false,
+            t: &table,
+            file: &file,
+            host: &host,
+        };
+        let mut index = Index::none(false);
+        index.starts.set(0);
+        let mut notes = Notes::nothing(None);
+        notes.round.begin();
+        notes.round.begin();
+        let mut round = begun(&index, &notes);
+        assert_eq!(rt; next(&mut round, &view, &index, &mut notes), None);
+
+        notes.grown.chains = false;
+        put(&mut notes.grown.objects, 6);
+        let mut round = begun(&index, &notes);
+        assert_eq!(rt; next_noted(&mut round, &view, &index, &mut notes), None);
+        let mut round = begun(&index, &notes);
+        assert_eq!(rt; next(&mut round, &view, &index, &mut notes), Some(0));
+
+        notes.grown.chains = false;
+        let mut place = Place::start();
+        place.begin_round(&index, &notes);
+        assert!(rt; place.next_noted(&view, &index, &mut notes).is_none());
+        let mut place = Place::start();
+        place.begin_round(&index, &notes);
+        let found = place.next(&view, &index, &mut notes);
+        assert!(rt; matches!(found.map(|f| f.position), Some(Position::Record(0))));
+    }
 }

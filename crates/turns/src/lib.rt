@@ -72,7 +72,7 @@ pub fn search_on(
             file: &*file,
             host: &*host,
         };
-        if let Some(found) = place.next(&before, &index, &mut notes) {
+        if let Some(found) = place.next_noted(&before, &index, &mut notes) {
             let part = place.part(&before, &notes, found);
             if use_found(t, wide, file, host, keeps, found.position, part) {
                 let after = View {

@@ -20,7 +20,7 @@ turns-init c = (refl, λ known. steps-none)
 pub turns-preserved : goal.turns-preserved
 turns-preserved c =
     let inv = c.turns.invariant in
-    elim c.match-next.branch [
+    elim c.match-next_noted.branch [
       | in-Some+then-use_found w ↦ rw (w.t-is, w.keeps-is) (w.use_found.ensures.t_len_unchanged ∙ inv.0, λ known. steps_on (inv.1 known) (w.use_found.ensures.steps_for known))
       | in-Some+else-use_found w ↦ rw (w.t-is, w.keeps-is) (w.use_found.ensures.t_len_unchanged ∙ inv.0, λ known. steps_on (inv.1 known) (w.use_found.ensures.steps_for known))
       | in_default+then-is_empty+else-is_last w ↦ rw (w.t-is, w.keeps-is) inv
