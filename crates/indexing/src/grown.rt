@@ -62,7 +62,7 @@ pub struct Grown {
     // variables that hold a function that hands back or throws more, and those that hold a label whose chain grew
     pub callees: Set,
     pub objects: Set,
-    // rows of T and of P; whether some of P did, as a test of few steps
+    // rows of T and of P; whether some of P did: one bit, which a round asks before the sets (but for `Place::next` of the crate search)
     pub scopes: Set,
     pub labels: Set,
     pub chains: bool,

@@ -60,8 +60,8 @@ impl Place {
         self.round = rounds::begun(index, notes);
     }
 
-    // The next position to use, where it was noted whether a chain grew; none where nothing is left of the readers of a variable. Where no variable is due then, the
-    // round is over.
+    // The next position to use; none where nothing is left of the readers of a variable. Where no variable is due then, the round is over. It goes by
+    // `notes.grown.chains`, which `begin_round` of the crate growth sets.
     pub fn next_noted(&mut self, view: &View, index: &Index, notes: &mut Notes) -> Option<Found>
         ensures { Begins (labels view.now.wide) view.now.file.now index.now.starts → IfSome result (λ f. Named (labels view.now.wide) view.now.file.now f.position) }
     {
@@ -88,7 +88,7 @@ impl Place {
         found(&index.starts, Position::Record(at), Source::Round)
     }
 
-    // The same, whoever put down what grew: a chain may have grown.
+    // The same for notes in which what grew was put down by hand: `chains` need not say so then, and all is looked at as if a chain had grown.
     pub fn next(&mut self, view: &View, index: &Index, notes: &mut Notes) -> Option<Found>
         ensures { Begins (labels view.now.wide) view.now.file.now index.now.starts → IfSome result (λ f. Named (labels view.now.wide) view.now.file.now f.position) }
     {

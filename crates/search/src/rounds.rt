@@ -44,14 +44,14 @@ pub fn begun(index: &Index, notes: &Notes) -> Scan {
     Scan::of(marked, 8, u64::MAX, u64::MAX)
 }
 
-// The place of the next record of the round that is worth a look, where it was noted whether a chain grew.
+// The place of the next record of the round that is worth a look. It goes by `notes.grown.chains`, which `begin_round` of the crate growth sets.
 pub fn next_noted(scan: &mut Scan, view: &View, index: &Index, notes: &mut Notes) -> Option<usize> {
     scan.find(&index.starts, |at| {
         wakes(view, notes, Record::at(view.file, at))
     })
 }
 
-// The same, whoever put down what grew: a chain may have grown, so that each look asks the sets.
+// The same for notes in which what grew was put down by hand: `chains` need not say so then, and each look asks the sets.
 pub fn next(scan: &mut Scan, view: &View, index: &Index, notes: &mut Notes) -> Option<usize> {
     notes.grown.chains = true;
     next_noted(scan, view, index, notes)
@@ -66,7 +66,7 @@ mod tests {
     use indexing::position::Position;
     use rows::TABLE_WORDS;
 
-    // A load of an object in variable 6, of which it is put down by hand that it holds a label whose chain grew. Nobody noted that one did.
+    // A load whose object is variable 6: that this holds a label whose chain grew is put down by hand, and `chains` does not say so.
     #[test]
     fn a_load_is_found_by_what_was_put_down(rt: HostRuntime) {
         let table = [0u64; TABLE_WORDS];
